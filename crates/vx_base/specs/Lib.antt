@@ -1,4 +1,7 @@
 pub mod Faults
+pub mod MemoryShelf
+pub mod MemorySink
+pub mod NamedFiles
 pub mod Numbers
 pub mod Options
 pub mod Page

@@ -8,6 +8,7 @@
 
 mod bytes;
 mod machine;
+mod memory_shelf;
 mod memory_sink;
 mod options;
 mod page;
@@ -18,6 +19,7 @@ mod text;
 
 pub use bytes::Bytes;
 pub use machine::{Fault, Want};
+pub use memory_shelf::{MemShelf, NamedFile, SureShelf};
 pub use memory_sink::MemSink;
 pub use options::Options;
 pub use page::Page;

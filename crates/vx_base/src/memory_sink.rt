@@ -1,8 +1,10 @@
-ghost use Rattle.std.specs.Prelude.{◌≡◌, ◌≤◌, ◌<◌, ◌-◌, ◌+◌, [], min, length, Some, IfOk, vec_len, vec_capacity, slice_index};
-ghost use Rattle.vx_base.specs.Sink.{SinkState, Puts};
+ghost use Rattle.std.specs.Prelude.{◌≡◌, ◌<◌, [], length, IfOk};
+ghost use Rattle.vx_base.specs.Sink.{Puts};
+ghost use Rattle.vx_base.specs.MemorySink.{sink_told, fails_next, PutsInMemory};
 
 use crate::sink::{Put, Sink};
 use std::alloc::{AllocError, Global};
+use std::marker::Model;
 
 /// A sink in memory. It tells all, fails the puts whose numbers it was given, and holds a stated number of bytes.
 #[derive(Debug, Drop)]
@@ -13,9 +15,17 @@ pub struct MemSink {
     fails: Vec<u64>,
     calls: u64,
     faults: u64,
-    ghost within: { vec_len bytes ≤ room },
-    ghost reserved: { room ≤ vec_capacity bytes },
-    ghost moves: { 0 < per_put },
+}
+
+impl Model for MemSink {
+    ghost use Rattle.std.specs.Prelude.{◌≤◌, ◌<◌, vec_len, vec_capacity};
+    ghost use Rattle.vx_base.specs.MemorySink.{MemSinkView};
+
+    ghost Value = { MemSinkView };
+
+    ghost view = { λ s. record { bytes = s.bytes.items; room = s.room; per_put = s.per_put; fails = s.fails.items; calls = s.calls; faults = s.faults } };
+
+    ghost invariant = { λ s. (vec_len s.bytes ≤ s.room) × (s.room ≤ vec_capacity s.bytes) × (0 < s.per_put) };
 }
 
 impl MemSink {
@@ -28,7 +38,7 @@ impl MemSink {
         fails: Vec<u64>,
     ) -> Result<MemSink, AllocError>
         requires { 0 < per_put }
-        ensures { IfOk result (λ sink. sink.bytes.items ≡ []) }
+        ensures { IfOk result (λ sink. sink ≡ record { bytes = []; room = room; per_put = per_put; fails = fails.items; calls = 0; faults = 0 }) }
     {
         let bytes = Vec::with_capacity(alloc, room)?;
         Ok(MemSink {
@@ -43,27 +53,39 @@ impl MemSink {
 
     /// The bytes put so far.
     pub fn bytes(&self) -> &[u8]
-        ensures { result.now ≡ self.now.bytes.items }
+        ensures { result.now ≡ self.now.bytes }
     {
         self.bytes.as_slice()
+    }
+
+    /// Whether the next put fails.
+    fn fails_next(&self) -> bool
+        ensures { result ≡ fails_next self.now }
+    {
+        self.fails.contains(&self.calls.saturating_add(1)) || self.room <= self.bytes.len()
     }
 }
 
 impl Sink for MemSink {
-    ghost use Rattle.std.specs.Prelude.{Some};
+    ghost use Rattle.vx_base.specs.MemorySink.{sink_told};
 
-    ghost state = { λ s. record { bytes = Some s.bytes.items; faults = s.faults } };
+    ghost state = { sink_told };
 
-    fn put(&mut self, piece: &[u8]) -> Put {
+    fn put(&mut self, piece: &[u8]) -> Put
+        requires { 0 < length piece.now }
+        ensures told { Puts (sink_told self.old) (sink_told self.new) piece.now result }
+        ensures exact { PutsInMemory self.old self.new piece.now result }
+    {
+        let fails = self.fails_next();
         self.calls = self.calls.saturating_add(1);
+        if fails {
+            self.faults = self.faults.saturating_add(1);
+            return Put::Failed;
+        }
         let count = self
             .per_put
             .min(self.room - self.bytes.len())
             .min(piece.len());
-        if count == 0 || self.fails.contains(&self.calls) {
-            self.faults = self.faults.saturating_add(1);
-            return Put::Failed;
-        }
         match self.bytes.extend_from_slice(&piece[..count]) {
             Ok(()) => Put::Took(count),
             Err(_) => unreachable!(),
