@@ -15,6 +15,8 @@ mod page;
 mod perm;
 mod shelf;
 mod sink;
+#[cfg(test)]
+mod tests;
 mod text;
 
 pub use bytes::Bytes;

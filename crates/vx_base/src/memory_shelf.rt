@@ -1,4 +1,4 @@
-ghost use Rattle.std.specs.Prelude.{◌≡◌, ◌≢◌, [], IfOk, option_copied};
+ghost use Rattle.std.specs.Prelude.{◌≡◌, ◌≢◌, [], ◌∷◌, ◌++◌, IfOk, OnOk, OnErr, option_copied};
 ghost use Rattle.vx_base.specs.Shelf.{Fetches};
 ghost use Rattle.vx_base.specs.NamedFiles.{bytes_under, bytes_or_none};
 ghost use Rattle.vx_base.specs.MemoryShelf.{shelf_told, sure_shelf_told, found_next, Answers, taken, FetchesInMemory, FetchesSurely};
@@ -33,6 +33,15 @@ fn text_of(alloc: Global, name: &str) -> Result<Text, AllocError>
     ensures { IfOk result (λ text. text ≡ name.now) }
 {
     Ok(Text::of(Vec::from_slice(alloc, name.as_bytes())?))
+}
+
+/// Adds a name to those that were asked for. For want of memory nothing changes.
+fn ask(asked: &mut Vec<Text>, alloc: Global, name: &str) -> Result<(), AllocError>
+    ensures asks { OnOk result (asked.new.items ≡ asked.old.items ++ name.now ∷ []) }
+    ensures unasked { OnErr result (asked.new.items ≡ asked.old.items) }
+{
+    asked.push(text_of(alloc, name)?)?;
+    Ok(())
 }
 
 /// What a fetch answers that finds these bytes: a copy of them, or that they are more than the limit.
@@ -123,7 +132,7 @@ impl Shelf for MemShelf {
         let found = self.found(name);
         let received = size_of(found);
         let fetched = answer(alloc, found, limit)?;
-        self.asked.push(text_of(alloc, name)?)?;
+        ask(&mut self.asked, alloc, name)?;
         self.received = received;
         self.calls = self.calls.saturating_add(1);
         if let Fetched::Failed = fetched {
@@ -185,7 +194,7 @@ impl Shelf for SureShelf {
         let found = self.found(name);
         let received = found.len() as u64;
         let fetched = copied(alloc, found, limit)?;
-        self.asked.push(text_of(alloc, name)?)?;
+        ask(&mut self.asked, alloc, name)?;
         self.received = received;
         Ok(fetched)
     }
