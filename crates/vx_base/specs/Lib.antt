@@ -5,6 +5,7 @@ pub mod NamedFiles
 pub mod Numbers
 pub mod Options
 pub mod Page
+pub mod Pages
 pub mod Permissions
 pub mod Shelf
 pub mod Sink

@@ -1,6 +1,6 @@
 use crate::{
-    Bytes, Fetched, MemShelf, MemSink, NamedFile, Options, Page, PageEntry, Perm, Shelf, SureShelf,
-    Text, Want, WriteFault, write_text,
+    Bytes, Fetched, MemShelf, MemSink, NamedFile, Options, Page, PageEntry, PageList, Perm, Shelf,
+    SureShelf, Text, Want, WriteFault, write_text,
 };
 use bitflags::Flags;
 use std::alloc::{AllocError, Global};
@@ -109,6 +109,24 @@ fn lists_of_bytes_are_read(rt: HostRuntime) -> Result<(), Fail> {
     assert_eq!(rt; name.get(0).copied(), Some(0xc3));
     assert_eq!(rt; name.get(2).copied(), None);
     assert_eq!(rt; name.slice(), [0xc3, 0xa9].as_slice());
+    Ok(())
+}
+
+#[test]
+fn a_list_of_pages_is_read(rt: HostRuntime) -> Result<(), Fail> {
+    let code = PageEntry {
+        page: 0x10,
+        perm: Perm { bits: 5 },
+    };
+    let stack = PageEntry {
+        page: 0x3ff_ffff,
+        perm: Perm { bits: 6 },
+    };
+    let pages = PageList::of(vec![in rt.alloc(); code, stack]?);
+    assert_eq!(rt; pages.len(), 2);
+    assert!(rt; !pages.is_empty());
+    assert_eq!(rt; pages.get(1).copied(), Some(stack));
+    assert_eq!(rt; pages.get(2).copied(), None);
     Ok(())
 }
 
