@@ -1,0 +1,73 @@
+-- What a process has written stays, and more comes behind it.
+use Rattle.std.proofs.Common.{◌≡◌, ℕ, zero, suc, ◌+◌, Bool, true, false, List, [], ◌++◌, refl, sym, ap, subst, append_assoc, ◌∙◌, add-zero}
+use Rattle.std.proofs.Math.Nat.{add-suc}
+use Rattle.std.proofs.lemmas.List.{append-nil}
+use Rattle.std.specs.Prelude.{Option, Some, None, option_and_then, if◌then◌else◌}
+use Rattle.vx_decode.specs.declared.instr.Instr.{Instr}
+use Rattle.vx_rows.specs.declared.row.Class.{Class}
+use Rattle.vx_rows.specs.declared.row.Class.TheVariants as class
+use Rattle.vx_flat.specs.Image.{Image}
+use Rattle.vx_flat.specs.Run.{flat, state_after, IsPrefixOf}
+use Rattle.vx_flat.specs.State.{Flat}
+use Rattle.vx_flat.specs.Step.{Outcome, step, performed, performed_as, upcoming}
+use Rattle.vx_flat.specs.Step.Outcome.{Next, Exited, Faulted}
+use Rattle.vx_flat.specs.declared.upcoming.Upcoming.{Upcoming}
+use Rattle.vx_flat.specs.declared.upcoming.Upcoming.TheVariants.{Denied, Unknown, Ready}
+
+pub IsPrefixOf-refl : (xs : List ℕ) → IsPrefixOf xs xs
+IsPrefixOf-refl xs = ([], sym (append-nil xs))
+
+IsPrefixOf-append : (xs ys : List ℕ) → IsPrefixOf xs (xs ++ ys)
+IsPrefixOf-append xs ys = (ys, refl)
+
+IsPrefixOf-trans : (xs ys zs : List ℕ) → IsPrefixOf xs ys → IsPrefixOf ys zs → IsPrefixOf xs zs
+IsPrefixOf-trans xs ys zs p q =
+    (p.0 ++ q.0, q.1 ∙ ap (λ l. l ++ q.0) p.1 ∙ append_assoc xs p.0 q.0)
+
+-- where the process goes on, it has written at least this
+abbrev Keeps : List ℕ → Outcome → Type 0
+Keeps written (Next t) = IsPrefixOf written t.output
+Keeps written (Exited code) = Unit {0}
+Keeps written (Faulted fault) = Unit {0}
+
+Keeps-if : (written : List ℕ) (b : Bool) (x y : Outcome) → Keeps written x → Keeps written y → Keeps written (if b then x else y)
+Keeps-if written b x y p q = elim b as (λ v. Keeps written (if v then x else y)) [ true ↦ p | false ↦ q ]
+
+Keeps-performed_as : (c : Class) (s : Flat) (i : Instr) → Keeps s.output (performed_as c s i)
+Keeps-performed_as class.Arithmetic s i = IsPrefixOf-refl s.output
+Keeps-performed_as class.Branch s i = search (Keeps-if, IsPrefixOf-refl)
+Keeps-performed_as class.Store s i = search (Keeps-if, IsPrefixOf-refl)
+Keeps-performed_as class.Ecall s i = search (Keeps-if, IsPrefixOf-append)
+
+Keeps-performed : (s : Flat) (u : Upcoming) → Keeps s.output (performed s u)
+unfolding performed
+Keeps-performed s Denied = tt
+Keeps-performed s (Unknown word) = tt
+Keeps-performed s (Ready i) = Keeps-performed_as _ s i
+
+-- a state, where there is one, has written at least this
+abbrev KeepsIfAny : List ℕ → Option Flat → Type 0
+KeepsIfAny written None = Unit {0}
+KeepsIfAny written (Some t) = IsPrefixOf written t.output
+
+KeepsIfAny-after : (written : List ℕ) (s : Flat) (o : Outcome) → IsPrefixOf written s.output → Keeps s.output o → KeepsIfAny written (state_after o)
+KeepsIfAny-after written s (Next t) p q = IsPrefixOf-trans written s.output t.output p q
+KeepsIfAny-after written s (Exited code) p q = tt
+KeepsIfAny-after written s (Faulted fault) p q = tt
+
+KeepsIfAny-step : (written : List ℕ) (o : Option Flat) → KeepsIfAny written o → KeepsIfAny written (option_and_then (λ s. state_after (step s)) o)
+KeepsIfAny-step written None p = tt
+KeepsIfAny-step written (Some s) p = KeepsIfAny-after written s (step s) p (Keeps-performed s (upcoming s))
+
+-- k steps later
+pub KeepsIfAny-later : (image : Image) (n k : ℕ) (written : List ℕ) → KeepsIfAny written (flat image n) → KeepsIfAny written (flat image (n + k))
+unfolding flat
+KeepsIfAny-later image n zero written p = rw add-zero p
+KeepsIfAny-later image n (suc k) written p =
+    subst (λ (j : ℕ). KeepsIfAny written (flat image j)) (sym (add-suc n k)) (KeepsIfAny-step written (flat image (n + k)) (KeepsIfAny-later image n k written p))
+
+-- a later state has written at least what an earlier one has
+pub IsPrefixOf-later : (image : Image) (n k : ℕ) (early late : Flat) → flat image n ≡ Some early → flat image (n + k) ≡ Some late → IsPrefixOf early.output late.output
+IsPrefixOf-later image n k early late p q =
+    let before : KeepsIfAny early.output (flat image n) = subst (KeepsIfAny early.output) (sym p) (IsPrefixOf-refl early.output) in
+    subst (KeepsIfAny early.output) q (KeepsIfAny-later image n k early.output before)

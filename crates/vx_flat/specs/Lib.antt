@@ -1,0 +1,7 @@
+pub mod Image
+pub mod Memory
+pub mod Run
+pub mod Scalar
+pub mod Service
+pub mod State
+pub mod Step

@@ -1,0 +1,71 @@
+-- Memory by page: RISC-V Privileged 1.12, section 4.4 (Sv39: pages of 4,096 bytes, canonical addresses). Addresses are
+-- numbers below 2 ^ 64, and an access that passes the last wraps.
+use Rattle.std.specs.Prelude.{ℕ, zero, suc, ◌+◌, ◌-◌, ◌/◌, ◌%◌, ◌^◌, Bool, true, false, ◌==◌, ◌&&◌, ◌||◌, List, [], ◌∷◌, map, Option, Some, None, if◌then◌else◌, slice_index, slice_set}
+use Rattle.std.specs.Option.{option_map_or}
+use Rattle.vx_base.specs.Permissions.{grants}
+use Rattle.vx_base.specs.declared.machine.Want.{Want}
+
+pub record MappedPage : Type 0 where
+  -- its address divided by 4,096
+  pub number : ℕ
+  -- R 4, W 2 and X 1
+  pub permissions : ℕ
+  -- its 4,096 bytes
+  pub bytes : List ℕ
+
+-- the mapped pages, in rising order of their numbers
+abbrev pub Memory : Type 0
+Memory = List MappedPage
+
+abbrev pub page_of : ℕ → ℕ
+page_of address = address / 4096
+
+abbrev pub offset_of : ℕ → ℕ
+offset_of address = address % 4096
+
+-- the mapped page of that number
+abbrev pub page_numbered : ℕ → Memory → Option MappedPage
+page_numbered number [] = None
+page_numbered number (page ∷ memory) = if page.number == number then Some page else page_numbered number memory
+
+-- bits 63 to 39 equal bit 38
+abbrev pub is_canonical : ℕ → Bool
+is_canonical address = address / 2 ^ 38 == 0 || address / 2 ^ 38 == 2 ^ 26 - 1
+
+-- the address is canonical, and its page is mapped and grants the access
+abbrev pub permits : Memory → ℕ → Want → Bool
+permits memory address want =
+    is_canonical address && option_map_or (λ (page : MappedPage). grants page.permissions want) (page_numbered (page_of address) memory) false
+
+-- the byte at an address of a mapped page
+abbrev pub byte_at : Memory → ℕ → ℕ
+byte_at memory address =
+    option_map_or (λ (page : MappedPage). slice_index page.bytes (offset_of address)) (page_numbered (page_of address) memory) 0
+
+-- the address after this one
+abbrev pub next_address : ℕ → ℕ
+next_address address = (address + 1) % 2 ^ 64
+
+-- the bytes at so many addresses from this one on
+abbrev pub bytes_at : Memory → ℕ → ℕ → List ℕ
+bytes_at memory address zero = []
+bytes_at memory address (suc count) = byte_at memory address ∷ bytes_at memory (next_address address) count
+
+-- each of so many addresses from this one on lies on a page that grants the access
+abbrev pub all_permit : Memory → ℕ → ℕ → Want → Bool
+all_permit memory address zero want = true
+all_permit memory address (suc count) want = permits memory address want && all_permit memory (next_address address) count want
+
+-- the page with the byte at an offset set, where it is the page of that number
+abbrev pub with_byte : ℕ → ℕ → ℕ → MappedPage → MappedPage
+with_byte number offset byte page =
+    if page.number == number then record { number = page.number; permissions = page.permissions; bytes = slice_set page.bytes offset byte } else page
+
+-- the memory with the byte at an address set
+abbrev pub put_byte : Memory → ℕ → ℕ → Memory
+put_byte memory address byte = map (with_byte (page_of address) (offset_of address) byte) memory
+
+-- the memory with these bytes at the addresses from this one on
+abbrev pub put_bytes : Memory → ℕ → List ℕ → Memory
+put_bytes memory address [] = memory
+put_bytes memory address (byte ∷ bytes) = put_bytes (put_byte memory address byte) (next_address address) bytes

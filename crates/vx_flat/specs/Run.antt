@@ -1,0 +1,34 @@
+-- The run of an image alone, and how it ends. This project's own.
+use Rattle.std.specs.Prelude.{◌≡◌, ℕ, zero, suc, ◌+◌, ℤ, List, ◌++◌, Option, Some, None, option_and_then}
+use Rattle.vx_base.specs.declared.machine.Fault.{Fault}
+use Rattle.vx_flat.specs.Image.{Image, booted}
+use Rattle.vx_flat.specs.State.{Flat}
+use Rattle.vx_flat.specs.Step.{Outcome, step}
+use Rattle.vx_flat.specs.Step.Outcome.{Next, Exited, Faulted}
+
+-- the state that a step leads to, where the process goes on
+abbrev pub state_after : Outcome → Option Flat
+state_after (Next s) = Some s
+state_after (Exited code) = None
+state_after (Faulted fault) = None
+
+-- the state after n completed instructions, where the run has so many
+unfoldable pub flat : Image → ℕ → Option Flat
+flat image zero = Some (booted image)
+flat image (suc n) = option_and_then (λ s. state_after (step s)) (flat image n)
+
+-- the run exits with its n-th instruction, from this state
+pub record Exits (image : Image) (n : ℕ) (code : ℤ) (last : Flat) : Type 0 where
+  pub before : ℕ
+  pub counted : n ≡ before + 1
+  pub reached : flat image before ≡ Some last
+  pub step : step last ≡ Exited code
+
+-- the run faults after n completed instructions, in this state
+pub record Faults (image : Image) (n : ℕ) (fault : Fault) (last : Flat) : Type 0 where
+  pub reached : flat image n ≡ Some last
+  pub step : step last ≡ Faulted fault
+
+-- xs is the beginning of ys
+abbrev pub IsPrefixOf : List ℕ → List ℕ → Type 0
+IsPrefixOf xs ys = (rest : List ℕ) × (ys ≡ xs ++ rest)

@@ -1,0 +1,23 @@
+-- The state of the flat machine: RISC-V Unprivileged ISA 20191213, section 2.1 (registers and pc). What a process has
+-- written is this project's own.
+use Rattle.std.specs.Prelude.{ℕ, ◌+◌, ◌%◌, ◌^◌, ◌==◌, List, if◌then◌else◌, slice_index, slice_set}
+use Rattle.vx_flat.specs.Memory.{Memory}
+
+pub record Flat : Type 0 where
+  pub pc : ℕ
+  -- x0 to x31, of which x0 is 0
+  pub x : List ℕ
+  pub memory : Memory
+  -- what was written so far
+  pub output : List ℕ
+
+abbrev pub register : Flat → ℕ → ℕ
+register s r = slice_index s.x r
+
+-- the registers with rd set; x0 stays 0
+abbrev pub with_register : List ℕ → ℕ → ℕ → List ℕ
+with_register x rd value = if rd == 0 then x else slice_set x rd value
+
+-- the pc of the instruction that follows
+abbrev pub following : Flat → ℕ
+following s = (s.pc + 4) % 2 ^ 64

@@ -1,0 +1,9 @@
+ghost use Rattle.std.specs.Prelude.{◌≤◌, ◌≡◌, ℕ, Some};
+ghost use Rattle.vx_flat.specs.Image.{Image};
+ghost use Rattle.vx_flat.specs.State.{Flat};
+ghost use Rattle.vx_flat.specs.Run.{flat, IsPrefixOf};
+
+/// What a run has written is a prefix of what it has written later.
+pub fn output_only_grows()
+    ensures { (image : Image) (n m : ℕ) (early late : Flat) → n ≤ m → flat image n ≡ Some early → flat image m ≡ Some late → IsPrefixOf early.output late.output }
+{}

@@ -1,0 +1,12 @@
+use vx_decode::Instr;
+
+/// What stands at the pc.
+#[derive(Clone, Copy, PartialEq, Eq, Debug)]
+pub enum Upcoming {
+    /// The pc isn't canonical or its page can't be executed.
+    Denied,
+    /// A word that no row has.
+    Unknown(u32),
+    /// An instruction.
+    Ready(Instr),
+}
