@@ -1,5 +1,5 @@
--- Whole numbers and the numbers of a fixed width: two's complement, as the RISC-V Unprivileged ISA (20191213), chapter 1.4
--- and 2.1, reads registers and memory.
+-- Whole numbers and the numbers of a fixed width, in two's complement, and bytes, least first: RISC-V Unprivileged ISA
+-- 20191213, sections 1.4, 1.5 and 2.1.
 use Rattle.std.specs.Prelude.{ℕ, ◌-◌, ◌/◌, ◌%◌, ◌^◌, if◌then◌else◌, nat_lt, ℤ, pos, negsuc, ◌-ℤ◌, List, [], ◌∷◌, zero, suc, ◌+◌, ◌*◌}
 
 -- z reduced to a width: the number below 2 ^ width that differs from z by a multiple of 2 ^ width
@@ -7,9 +7,9 @@ abbrev pub reduced : ℕ → ℤ → ℕ
 reduced width (pos n) = n % 2 ^ width
 reduced width (negsuc n) = 2 ^ width - 1 - n % 2 ^ width
 
--- n, a number below 2 ^ width, read as a signed number of that width
+-- n, a number below 2 ^ width, read as a signed number of that width: n, or n - 2 ^ width where its top bit is set
 abbrev pub signed : ℕ → ℕ → ℤ
-signed width n = if nat_lt n (2 ^ (width - 1)) then pos n else pos n -ℤ pos (2 ^ width)
+signed width n = if nat_lt n (2 ^ (width - 1)) then pos n else negsuc (2 ^ width - 1 - n)
 
 -- the bits of n from `low` on, `count` of them
 abbrev pub field : ℕ → ℕ → ℕ → ℕ

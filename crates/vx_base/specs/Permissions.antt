@@ -1,4 +1,5 @@
--- What a page's permissions let an access do. RISC-V Privileged 1.12, section 4.3.1.
+-- What a page's permissions let an access do. Their numbers are those of a program header's flags (ELF64), R 4, W 2 and
+-- X 1, and not those of a page-table entry's bits.
 use Rattle.std.specs.Prelude.{ℕ, Bool, bit_and, ◌==◌}
 use Rattle.vx_base.specs.declared.machine.Want.{Want}
 use Rattle.vx_base.specs.declared.machine.Want.TheVariants.{Fetch, Load, Store}

@@ -12,7 +12,7 @@ use Rattle.vx_flat.specs.State.{Flat}
 use Rattle.vx_flat.specs.Step.{Outcome, step, performed, performed_as, upcoming}
 use Rattle.vx_flat.specs.Step.Outcome.{Next, Exited, Faulted}
 use Rattle.vx_flat.specs.declared.upcoming.Upcoming.{Upcoming}
-use Rattle.vx_flat.specs.declared.upcoming.Upcoming.TheVariants.{Denied, Unknown, Ready}
+use Rattle.vx_flat.specs.declared.upcoming.Upcoming.TheVariants.{Denied, Illegal, Instruction}
 
 pub IsPrefixOf-refl : (xs : List ℕ) → IsPrefixOf xs xs
 IsPrefixOf-refl xs = ([], sym (append-nil xs))
@@ -28,7 +28,7 @@ IsPrefixOf-trans xs ys zs p q =
 abbrev Keeps : List ℕ → Outcome → Type 0
 Keeps written (Next t) = IsPrefixOf written t.output
 Keeps written (Exited code) = Unit {0}
-Keeps written (Faulted fault) = Unit {0}
+Keeps written (Faulted fault s) = Unit {0}
 
 Keeps-if : (written : List ℕ) (b : Bool) (x y : Outcome) → Keeps written x → Keeps written y → Keeps written (if b then x else y)
 Keeps-if written b x y p q = elim b as (λ v. Keeps written (if v then x else y)) [ true ↦ p | false ↦ q ]
@@ -42,8 +42,8 @@ Keeps-performed_as class.Ecall s i = search (Keeps-if, IsPrefixOf-append)
 Keeps-performed : (s : Flat) (u : Upcoming) → Keeps s.output (performed s u)
 unfolding performed
 Keeps-performed s Denied = tt
-Keeps-performed s (Unknown word) = tt
-Keeps-performed s (Ready i) = Keeps-performed_as _ s i
+Keeps-performed s (Illegal word) = tt
+Keeps-performed s (Instruction i) = Keeps-performed_as _ s i
 
 -- a state, where there is one, has written at least this
 abbrev KeepsIfAny : List ℕ → Option Flat → Type 0
@@ -53,7 +53,7 @@ KeepsIfAny written (Some t) = IsPrefixOf written t.output
 KeepsIfAny-after : (written : List ℕ) (s : Flat) (o : Outcome) → IsPrefixOf written s.output → Keeps s.output o → KeepsIfAny written (state_after o)
 KeepsIfAny-after written s (Next t) p q = IsPrefixOf-trans written s.output t.output p q
 KeepsIfAny-after written s (Exited code) p q = tt
-KeepsIfAny-after written s (Faulted fault) p q = tt
+KeepsIfAny-after written s (Faulted fault t) p q = tt
 
 KeepsIfAny-step : (written : List ℕ) (o : Option Flat) → KeepsIfAny written o → KeepsIfAny written (option_and_then (λ s. state_after (step s)) o)
 KeepsIfAny-step written None p = tt

@@ -1,5 +1,6 @@
 pub mod Image
 pub mod Memory
+pub mod Process
 pub mod Run
 pub mod Scalar
 pub mod Service

@@ -59,7 +59,7 @@ all_permit memory address (suc count) want = permits memory address want && all_
 -- the page with the byte at an offset set, where it is the page of that number
 abbrev pub with_byte : ℕ → ℕ → ℕ → MappedPage → MappedPage
 with_byte number offset byte page =
-    if page.number == number then record { number = page.number; permissions = page.permissions; bytes = slice_set page.bytes offset byte } else page
+    if page.number == number then record page { bytes = slice_set page.bytes offset byte } else page
 
 -- the memory with the byte at an address set
 abbrev pub put_byte : Memory → ℕ → ℕ → Memory

@@ -10,7 +10,7 @@ use Rattle.vx_flat.specs.Step.Outcome.{Next, Exited, Faulted}
 abbrev pub state_after : Outcome → Option Flat
 state_after (Next s) = Some s
 state_after (Exited code) = None
-state_after (Faulted fault) = None
+state_after (Faulted fault s) = None
 
 -- the state after n completed instructions, where the run has so many
 unfoldable pub flat : Image → ℕ → Option Flat
@@ -22,12 +22,13 @@ pub record Exits (image : Image) (n : ℕ) (code : ℤ) (last : Flat) : Type 0 w
   pub before : ℕ
   pub counted : n ≡ before + 1
   pub reached : flat image before ≡ Some last
-  pub step : step last ≡ Exited code
+  pub ends : step last ≡ Exited code
 
--- the run faults after n completed instructions, in this state
+-- the run faults after n completed instructions, and its instruction leaves this state
 pub record Faults (image : Image) (n : ℕ) (fault : Fault) (last : Flat) : Type 0 where
-  pub reached : flat image n ≡ Some last
-  pub step : step last ≡ Faulted fault
+  pub before : Flat
+  pub reached : flat image n ≡ Some before
+  pub ends : step before ≡ Faulted fault last
 
 -- xs is the beginning of ys
 abbrev pub IsPrefixOf : List ℕ → List ℕ → Type 0

@@ -1,16 +1,16 @@
 -- What the operations of RV64I compute: RISC-V Unprivileged ISA 20191213, sections 2.4 to 2.6 and 5.2.
-use Rattle.std.specs.Prelude.{ℕ, ◌+◌, ◌%◌, ◌^◌, Bool, false, not, ◌==◌, ℤ, pos, ◌+ℤ◌, ◌*ℤ◌}
+use Rattle.std.specs.Prelude.{ℕ, ◌+◌, ◌%◌, ◌^◌, Bool, false, not, ◌==◌, ℤ, pos, ◌+ℤ◌, ◌*◌}
 use Rattle.vx_base.specs.Numbers.{reduced, signed}
 use Rattle.vx_rows.specs.declared.op.Op.{Op}
 use Rattle.vx_rows.specs.declared.op.Op.TheVariants.{Scalar}
 use Rattle.vx_rows.specs.declared.op.ScalarOp.TheVariants.{Lui, Bne, Sb, Addi, Add}
 
--- the value of rd, of the numbers a in rs1 and b in rs2 and the immediate
-abbrev pub computed : Op → (a b : ℕ) → ℤ → ℕ
-computed (Scalar Lui) a b imm = reduced 64 (signed 32 (reduced 32 (imm *ℤ pos (2 ^ 12))))
-computed (Scalar Addi) a b imm = reduced 64 (pos a +ℤ imm)
-computed (Scalar Add) a b imm = (a + b) % 2 ^ 64
-computed op a b imm = 0
+-- the value of rd, of the pc, the numbers a in rs1 and b in rs2, and the immediate
+abbrev pub computed : Op → (pc a b : ℕ) → ℤ → ℕ
+computed (Scalar Lui) pc a b imm = reduced 64 (signed 32 (reduced 20 imm * 2 ^ 12))
+computed (Scalar Addi) pc a b imm = reduced 64 (pos a +ℤ imm)
+computed (Scalar Add) pc a b imm = (a + b) % 2 ^ 64
+computed op pc a b imm = 0
 
 -- the branch is taken, of the numbers a in rs1 and b in rs2
 abbrev pub is_taken : Op → (a b : ℕ) → Bool

@@ -40,4 +40,4 @@ service s number =
 
 -- the state after an answer
 abbrev pub answered : Flat → Answer → Flat
-answered s answer = record { pc = following s; x = with_register s.x 10 (reduced 64 answer.value); memory = s.memory; output = s.output ++ answer.written }
+answered s answer = record s { pc = following s; x = with_register s.x 10 (reduced 64 answer.value); output = s.output ++ answer.written }

@@ -1,5 +1,5 @@
 -- The step of the flat machine: RISC-V Unprivileged ISA 20191213, chapters 2 and 5; causes and trap values of RISC-V
--- Privileged 1.12, sections 4.1.8 and 4.1.9. The first line that applies decides, in the order in which they stand.
+-- Privileged 1.12, sections 4.1.8 and 4.1.9. The causes stand in the order in which they are tested.
 use Rattle.std.specs.Prelude.{ℕ, ◌%◌, not, ◌==◌, ℤ, pos, ◌+ℤ◌, Option, Some, None, if◌then◌else◌}
 use Rattle.vx_base.specs.Numbers.{reduced, signed, little_endian, from_little_endian}
 use Rattle.vx_base.specs.declared.machine.Fault.{Fault}
@@ -14,21 +14,23 @@ use Rattle.vx_flat.specs.Scalar.{computed, is_taken, access_width}
 use Rattle.vx_flat.specs.Service.{service, answered}
 use Rattle.vx_flat.specs.State.{Flat, register, with_register, following}
 use Rattle.vx_flat.specs.declared.upcoming.Upcoming.{Upcoming}
-use Rattle.vx_flat.specs.declared.upcoming.Upcoming.TheVariants.{Denied, Unknown, Ready}
+use Rattle.vx_flat.specs.declared.upcoming.Upcoming.TheVariants.{Denied, Illegal, Instruction}
 
 -- what a step leads to: the next state, or the end of the process
 pub data Outcome : Type 0 where
   Next : (s : Flat) → Outcome
   Exited : (code : ℤ) → Outcome
-  Faulted : (fault : Fault) → Outcome
+  -- the instruction faulted, and left this state
+  Faulted : (fault : Fault) (s : Flat) → Outcome
 
-abbrev pub faulted : (cause tval : ℕ) → Outcome
-faulted cause tval = Faulted (record { cause = cause; tval = tval; vstart = 0 })
+-- the instruction faulted, and changed nothing
+abbrev pub faulted : Flat → (cause tval : ℕ) → Outcome
+faulted s cause tval = Faulted (record { cause = cause; tval = tval; vstart = 0 }) s
 
 -- what a word means, as what comes next
 abbrev pub meaning : ℕ → Option Instr → Upcoming
-meaning word None = Unknown word
-meaning word (Some i) = Ready i
+meaning word None = Illegal word
+meaning word (Some i) = Instruction i
 
 -- the word at the pc
 abbrev pub word_at_pc : Flat → ℕ
@@ -40,24 +42,21 @@ upcoming s = if permits s.memory s.pc Fetch then meaning (word_at_pc s) (decoded
 
 -- an instruction that computes
 abbrev pub compute : Flat → Instr → Outcome
-compute s i = Next (record {
+compute s i = Next (record s {
   pc = following s;
-  x = with_register s.x i.rd (computed i.op (register s i.rs1) (register s i.rs2) i.imm);
-  memory = s.memory;
-  output = s.output;
+  x = with_register s.x i.rd (computed i.op s.pc (register s i.rs1) (register s i.rs2) i.imm);
 })
 
 -- a jump to a target, which is to be a multiple of 4
 abbrev pub jump : Flat → ℕ → Outcome
 jump s target =
-    if target % 4 == 0 then Next (record { pc = target; x = s.x; memory = s.memory; output = s.output })
-    else faulted 0 target
+    if target % 4 == 0 then Next (record s { pc = target }) else faulted s 0 target
 
 -- a branch, which falls through where it isn't taken
 abbrev pub branch : Flat → Instr → Outcome
 branch s i =
     if is_taken i.op (register s i.rs1) (register s i.rs2) then jump s (reduced 64 (pos s.pc +ℤ i.imm))
-    else Next (record { pc = following s; x = s.x; memory = s.memory; output = s.output })
+    else Next (record s { pc = following s })
 
 -- the address of a load or a store
 abbrev pub access_address : Flat → Instr → ℕ
@@ -66,9 +65,9 @@ access_address s i = reduced 64 (pos (register s i.rs1) +ℤ i.imm)
 -- the low bytes of a number stored at an address, which is to be a multiple of their number
 abbrev pub store_at : Flat → (address width value : ℕ) → Outcome
 store_at s address width value =
-    if not (address % width == 0) then faulted 6 address
-    else if not (permits s.memory address Store) then faulted 15 address
-    else Next (record { pc = following s; x = s.x; memory = put_bytes s.memory address (little_endian width value); output = s.output })
+    if not (address % width == 0) then faulted s 6 address
+    else if not (permits s.memory address Store) then faulted s 15 address
+    else Next (record s { pc = following s; memory = put_bytes s.memory address (little_endian width value) })
 
 abbrev pub store : Flat → Instr → Outcome
 store s i = store_at s (access_address s i) (access_width i.op) (register s i.rs2)
@@ -88,9 +87,9 @@ performed_as class.Ecall s i = ecall s
 
 -- what comes next, done
 unfoldable pub performed : Flat → Upcoming → Outcome
-performed s Denied = faulted 12 s.pc
-performed s (Unknown word) = faulted 2 word
-performed s (Ready i) = performed_as (class_of i.op) s i
+performed s Denied = faulted s 12 s.pc
+performed s (Illegal word) = faulted s 2 word
+performed s (Instruction i) = performed_as (class_of i.op) s i
 
 -- the flat step
 abbrev pub step : Flat → Outcome

@@ -6,7 +6,7 @@ pub enum Upcoming {
     /// The pc isn't canonical or its page can't be executed.
     Denied,
     /// A word that no row has.
-    Unknown(u32),
+    Illegal(u32),
     /// An instruction.
-    Ready(Instr),
+    Instruction(Instr),
 }
