@@ -1,0 +1,4 @@
+pub mod Accounts
+pub mod Claim
+pub mod Machine
+pub mod Report

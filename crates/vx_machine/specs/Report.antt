@@ -1,0 +1,47 @@
+-- The report's bytes. This project's own.
+use Rattle.std.specs.Prelude.{ℕ, zero, suc, ◌+◌, ◌/◌, ◌%◌, nat_lt, List, [], ◌∷◌, ◌++◌, length, if◌then◌else◌, codes, decimal}
+use Rattle.std.specs.Fmt.{signed_decimal}
+use Rattle.vx_words.specs.Lines.{line}
+use Rattle.vx_machine.specs.Accounts.{Account, Standing}
+use Rattle.vx_machine.specs.Accounts.Standing.{Exited, Faulted, Stopped}
+use Rattle.vx_machine.specs.declared.stop.Stop.{Stop}
+use Rattle.vx_machine.specs.declared.stop.Stop.TheVariants.{Done, Spent}
+
+-- 0 to 9 and a to f
+abbrev pub hex_digit : ℕ → ℕ
+hex_digit n = if nat_lt n 10 then 48 + n else 87 + n
+
+-- the last so many hexadecimal digits of n
+unfoldable pub hex_digits : ℕ → ℕ → List ℕ
+hex_digits zero n = []
+hex_digits (suc count) n = hex_digits count (n / 16) ++ hex_digit (n % 16) ∷ []
+
+abbrev pub hex : ℕ → List ℕ
+hex n = codes "0x" ++ hex_digits 16 n
+
+abbrev pub standing_words : Standing → List (List ℕ)
+standing_words (Exited code) = codes "exited " ∷ signed_decimal code ∷ []
+standing_words (Faulted fault pc) =
+    codes "faulted cause " ∷ decimal fault.cause ∷ codes " pc " ∷ hex pc ∷ codes " tval " ∷ hex fault.tval ∷ codes " vstart " ∷ decimal fault.vstart ∷ []
+standing_words (Stopped pc vstart) = codes "stopped pc " ∷ hex pc ∷ codes " vstart " ∷ decimal vstart ∷ []
+
+-- the lines of the process of that number, and what it wrote
+abbrev pub process_text : ℕ → Account → List ℕ
+process_text number a =
+    line (codes "process " ∷ decimal number ∷ codes ": " ∷ standing_words a.standing)
+    ++ line (codes "  instructions " ∷ decimal a.instructions ∷ codes " cycles " ∷ decimal a.cycles ∷ codes " misses " ∷ decimal a.misses ∷ [])
+    ++ line (codes "  output " ∷ decimal (length a.output) ∷ [])
+    ++ line (a.output ∷ [])
+
+abbrev pub processes_text : ℕ → List Account → List ℕ
+processes_text number [] = []
+processes_text number (a ∷ accounts) = process_text number a ++ processes_text (number + 1) accounts
+
+abbrev pub stop_word : Stop → List ℕ
+stop_word Done = codes "done"
+stop_word Spent = codes "spent"
+
+-- the report of the processes in their order, of the clock and of the stop
+abbrev pub report : List Account → ℕ → Stop → List ℕ
+report accounts total stop =
+    processes_text 0 accounts ++ line (codes "total " ∷ decimal total ∷ codes " cycles, " ∷ stop_word stop ∷ [])

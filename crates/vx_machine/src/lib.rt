@@ -1,0 +1,11 @@
+//! The whole machine: its run, its stops, the report, and the claim of the program's call.
+//!
+//! The crate is its definitions (`specs/`). It stands on `vx_flat` and `vx_words`; `vx_system` and `vx_top` cite it. Its
+//! functions have no code: each states a law of the definitions.
+#![tactic(auto)]
+
+mod laws;
+mod stop;
+
+pub use laws::accounts_are_true;
+pub use stop::Stop;
