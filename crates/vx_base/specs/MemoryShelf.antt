@@ -28,14 +28,25 @@ pub record SureShelfView : Type 0 where
 
 -- what they tell: all of it, and of the one that never fails no fault
 abbrev pub shelf_told : MemShelfView → ShelfState
-shelf_told shelf = record { files = Some (bytes_under shelf.files); asked = shelf.asked; received = shelf.received; faults = shelf.faults }
+shelf_told shelf = record {
+  files = Some (bytes_under shelf.files);
+  asked = shelf.asked;
+  received = shelf.received;
+  faults = shelf.faults;
+}
 
 abbrev pub sure_shelf_told : SureShelfView → ShelfState
-sure_shelf_told shelf = record { files = Some (bytes_or_none shelf.files); asked = shelf.asked; received = shelf.received; faults = 0 }
+sure_shelf_told shelf = record {
+  files = Some (bytes_or_none shelf.files);
+  asked = shelf.asked;
+  received = shelf.received;
+  faults = 0;
+}
 
 -- the bytes that the next fetch of the name finds: none where its number fails, or no file has the name
 abbrev pub found_next : MemShelfView → List ℕ → Option (List ℕ)
-found_next shelf name = if is_listed_next shelf.calls shelf.fails then None else bytes_under shelf.files name
+found_next shelf name =
+    if is_listed_next shelf.calls shelf.fails then None else bytes_under shelf.files name
 
 -- the answer to a fetch that finds these bytes, or none
 abbrev pub Answers : Option (List ℕ) → ℕ → Fetched → Type 0
@@ -53,12 +64,29 @@ abbrev pub faults_after : Option (List ℕ) → ℕ → ℕ
 faults_after None faults = one_more faults
 faults_after (Some bytes) faults = faults
 
--- an answer to a fetch of the name that leaves a shelf like this: want of memory changes nothing
+-- the shelf after the next fetch, of this name
+abbrev pub after_fetch : MemShelfView → List ℕ → MemShelfView
+after_fetch shelf name = record shelf {
+  asked = shelf.asked ++ name ∷ [];
+  received = taken (found_next shelf name);
+  calls = one_more shelf.calls;
+  faults = faults_after (found_next shelf name) shelf.faults;
+}
+
+abbrev pub sure_after_fetch : SureShelfView → List ℕ → SureShelfView
+sure_after_fetch shelf name = record shelf {
+  asked = shelf.asked ++ name ∷ [];
+  received = taken (bytes_or_none shelf.files name);
+}
+
+-- what each answer to a fetch of the name says: want of memory changes nothing
 abbrev pub FetchesInMemory : MemShelfView → MemShelfView → List ℕ → ℕ → Result Fetched AllocError → Type 0
-FetchesInMemory before after name limit (Ok fetched) = Answers (found_next before name) limit fetched × (after ≡ record before { asked = before.asked ++ name ∷ []; received = taken (found_next before name); calls = one_more before.calls; faults = faults_after (found_next before name) before.faults })
+FetchesInMemory before after name limit (Ok fetched) =
+    Answers (found_next before name) limit fetched × (after ≡ after_fetch before name)
 FetchesInMemory before after name limit (Err e) = after ≡ before
 
 -- the same of the shelf that never fails
 abbrev pub FetchesSurely : SureShelfView → SureShelfView → List ℕ → ℕ → Result Fetched AllocError → Type 0
-FetchesSurely before after name limit (Ok fetched) = Answers (bytes_or_none before.files name) limit fetched × (after ≡ record before { asked = before.asked ++ name ∷ []; received = taken (bytes_or_none before.files name) })
+FetchesSurely before after name limit (Ok fetched) =
+    Answers (bytes_or_none before.files name) limit fetched × (after ≡ sure_after_fetch before name)
 FetchesSurely before after name limit (Err e) = after ≡ before

@@ -90,14 +90,28 @@ impl Model for MemShelf {
 
     ghost Value = { MemShelfView };
 
-    ghost view = { λ s. record { files = s.files.items; fails = s.fails.items; asked = s.asked.items; received = s.received; calls = s.calls; faults = s.faults } };
+    ghost view = { λ s. record {
+      files = s.files.items;
+      fails = s.fails.items;
+      asked = s.asked.items;
+      received = s.received;
+      calls = s.calls;
+      faults = s.faults;
+    } };
 }
 
 impl MemShelf {
     /// A shelf of these files, of which nothing was asked yet. Of two with one name the first counts. The fetches with
     /// the numbers in `fails`, counted from 1 and in rising order, fail; so does one of a name that no file has.
     pub fn new(alloc: Global, files: Vec<NamedFile>, fails: Vec<u64>) -> MemShelf
-        ensures { result ≡ record { files = files.items; fails = fails.items; asked = []; received = 0; calls = 0; faults = 0 } }
+        ensures { result ≡ record {
+          files = files.items;
+          fails = fails.items;
+          asked = [];
+          received = 0;
+          calls = 0;
+          faults = 0;
+        } }
     {
         MemShelf {
             files,

@@ -23,7 +23,14 @@ impl Model for MemSink {
 
     ghost Value = { MemSinkView };
 
-    ghost view = { λ s. record { bytes = s.bytes.items; room = s.room; per_put = s.per_put; fails = s.fails.items; calls = s.calls; faults = s.faults } };
+    ghost view = { λ s. record {
+      bytes = s.bytes.items;
+      room = s.room;
+      per_put = s.per_put;
+      fails = s.fails.items;
+      calls = s.calls;
+      faults = s.faults;
+    } };
 
     ghost invariant = { λ s. (vec_len s.bytes ≤ s.room) × (s.room ≤ vec_capacity s.bytes) × (0 < s.per_put) };
 }
@@ -38,7 +45,14 @@ impl MemSink {
         fails: Vec<u64>,
     ) -> Result<MemSink, AllocError>
         requires { 0 < per_put }
-        ensures { IfOk result (λ sink. sink ≡ record { bytes = []; room = room; per_put = per_put; fails = fails.items; calls = 0; faults = 0 }) }
+        ensures { IfOk result (λ sink. sink ≡ record {
+          bytes = [];
+          room = room;
+          per_put = per_put;
+          fails = fails.items;
+          calls = 0;
+          faults = 0;
+        }) }
     {
         let bytes = Vec::with_capacity(alloc, room)?;
         Ok(MemSink {

@@ -54,4 +54,13 @@ impl PageList {
     {
         self.items.get(n)
     }
+
+    /// The vector of the pages. Takes no memory.
+    pub fn into_vec(self) -> Vec<PageEntry>
+        ensures pages { result.items ≡ self }
+        ensures kept { IsPageList result.items }
+    {
+        let PageList { items } = self;
+        items
+    }
 }

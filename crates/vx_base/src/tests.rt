@@ -109,6 +109,7 @@ fn lists_of_bytes_are_read(rt: HostRuntime) -> Result<(), Fail> {
     assert_eq!(rt; name.get(0).copied(), Some(0xc3));
     assert_eq!(rt; name.get(2).copied(), None);
     assert_eq!(rt; name.slice(), [0xc3, 0xa9].as_slice());
+    assert_eq!(rt; name.into_vec().as_slice(), [0xc3, 0xa9].as_slice());
     Ok(())
 }
 
@@ -127,6 +128,7 @@ fn a_list_of_pages_is_read(rt: HostRuntime) -> Result<(), Fail> {
     assert!(rt; !pages.is_empty());
     assert_eq!(rt; pages.get(1).copied(), Some(stack));
     assert_eq!(rt; pages.get(2).copied(), None);
+    assert_eq!(rt; pages.into_vec().as_slice(), [code, stack].as_slice());
     Ok(())
 }
 

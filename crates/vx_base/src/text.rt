@@ -53,4 +53,13 @@ impl Text {
     {
         self.items.as_slice()
     }
+
+    /// The vector of the bytes. Takes no memory.
+    pub fn into_vec(self) -> Vec<u8>
+        ensures bytes { result.items ≡ self }
+        ensures utf8 { IsUtf8 result.items }
+    {
+        let Text { items } = self;
+        items
+    }
 }
