@@ -1,0 +1,6 @@
+pub mod Accesses
+pub mod Images
+pub mod Pages
+pub mod Performable
+pub mod Search
+pub mod Written

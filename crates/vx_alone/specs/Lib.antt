@@ -1,0 +1,4 @@
+pub mod Operands
+pub mod Pages
+pub mod Turns
+pub mod Writing

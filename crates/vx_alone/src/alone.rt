@@ -1,0 +1,331 @@
+ghost use Rattle.std.specs.Prelude.{◌≡◌, ◌≤◌, ◌^◌, ◌++◌, length, None, IfSome};
+ghost use Rattle.vx_alone.specs.Turns.{Boots, turn_of};
+ghost use Rattle.vx_flat.specs.Process.{after, begun, stepped};
+ghost use Rattle.vx_alone.specs.Operands.{NamesRegisters, IsPerformable};
+ghost use Rattle.vx_base.specs.Numbers.{signed};
+ghost use Rattle.vx_decode.specs.Decoded.{decoded};
+ghost use Rattle.vx_flat.specs.Image.{raw_fault, raw_image};
+ghost use Rattle.vx_flat.specs.Service.{service, answered, write};
+ghost use Rattle.vx_flat.specs.State.{following, register};
+ghost use Rattle.vx_flat.specs.Step.{meaning, upcoming, performed, performed_as, compute, branch, jump, store, ecall, faulted};
+ghost use Rattle.vx_flat.specs.Step.Outcome.{Next, Exited};
+ghost use Rattle.vx_rows.specs.Table.{class_of};
+
+use crate::arch::{Arch, Regs};
+use crate::memory::Memory;
+use crate::service::write;
+use crate::turn::Turn;
+use std::alloc::Global;
+use std::marker::Model;
+use vx_base::Fault;
+use vx_decode::{Instr, decode};
+use vx_flat::{End, ImageFault, Upcoming};
+use vx_rows::Class;
+
+/// The flat machine: one process alone, an instruction at a time. It takes all its memory at boot.
+#[derive(Debug, Drop)]
+pub struct Alone {
+    arch: Arch,
+    memory: Memory,
+    output: Vec<u8>,
+    count: u64,
+    over: Option<End>,
+}
+
+impl Model for Alone {
+    ghost use Rattle.std.specs.Prelude.{◌≤◌, ◌^◌, vec_len, vec_capacity};
+    ghost use Rattle.vx_flat.specs.Process.{Process};
+
+    ghost Value = { Process };
+
+    ghost view = { λ m. record {
+      state = record { pc = m.arch.pc; x = m.arch.regs.x; memory = m.memory; output = m.output.items };
+      count = m.count;
+      over = m.over;
+    } };
+
+    ghost invariant = { λ m. (2 ^ 20 ≤ vec_capacity m.output) × (vec_len m.output ≤ 2 ^ 20) };
+}
+
+impl Alone {
+    /// The machine of a raw image before its first instruction. It takes all the memory of the run here. `RawLength`
+    /// and `TooManyPages` come exactly where the bytes have that fault.
+    pub fn boot(alloc: Global, bytes: &[u8]) -> Result<Alone, ImageFault>
+        ensures { Boots bytes.now result }
+    {
+        match raw_fault(bytes) {
+            Some(fault) => Err(fault),
+            None => begun(alloc, bytes).ok_or(ImageFault::NoMemory),
+        }
+    }
+
+    /// What stands at the pc.
+    #[tactic(auto, unfolding(vx_flat::specs::Step::upcoming))]
+    pub fn upcoming(&self) -> Upcoming
+        ensures { result ≡ upcoming self.now.state }
+    {
+        match self.memory.word(self.arch.pc) {
+            None => Upcoming::Denied,
+            Some(word) => meaning(word),
+        }
+    }
+
+    /// Does what stands at the pc, in a machine that isn't over.
+    pub fn perform(&mut self, next: Upcoming) -> Turn
+        requires running { self.old.over ≡ None }
+        requires upcoming { next ≡ upcoming self.old.state }
+        ensures stepped { self.new ≡ stepped self.old }
+        ensures turn { result ≡ turn_of self.new.over }
+    {
+        self.act(next);
+        self.turn()
+    }
+
+    /// The flat step. After `Exited` or `Faulted` each step repeats that answer and changes nothing.
+    pub fn step(&mut self) -> Turn
+        ensures stepped { self.new ≡ stepped self.old }
+        ensures turn { result ≡ turn_of self.new.over }
+    {
+        if self.over.is_none() {
+            let next = self.upcoming();
+            return self.perform(next);
+        }
+        self.turn()
+    }
+
+    /// The registers and the pc.
+    pub fn arch(&self) -> &Arch
+        ensures pc { result.now.pc ≡ self.now.state.pc }
+        ensures registers { result.now.regs.x ≡ self.now.state.x }
+    {
+        &self.arch
+    }
+
+    /// What the process has written.
+    pub fn output(&self) -> &[u8]
+        ensures bytes { result.now ≡ self.now.state.output }
+        ensures limit { length result.now ≤ 2 ^ 20 }
+    {
+        self.output.as_slice()
+    }
+
+    /// How many instructions have completed, up to 2^64 − 1.
+    pub fn count(&self) -> u64
+        ensures { result ≡ self.now.count }
+    {
+        self.count
+    }
+
+    /// How the process ended, where it has.
+    pub fn over(&self) -> Option<End>
+        ensures { result ≡ self.now.over }
+    {
+        self.over
+    }
+
+    /// What a step of the machine as it is now answers.
+    fn turn(&self) -> Turn
+        ensures { result ≡ turn_of self.now.over }
+    {
+        match self.over {
+            None => Turn::Next,
+            Some(End::Exited(code)) => Turn::Exited(code),
+            Some(End::Faulted(fault)) => Turn::Faulted(fault),
+        }
+    }
+
+    /// Does what comes next.
+    #[tactic(auto, unfolding(vx_flat::specs::Step::performed))]
+    fn act(&mut self, next: Upcoming)
+        requires running { self.old.over ≡ None }
+        requires registers { IsPerformable next }
+        ensures { self.new ≡ after self.old (performed self.old.state next) }
+    {
+        match next {
+            Upcoming::Denied => self.fault(12, self.arch.pc),
+            Upcoming::Illegal(word) => self.fault(2, u64::from(word)),
+            Upcoming::Instruction(i) => self.execute(i),
+        }
+    }
+
+    /// Does an instruction.
+    fn execute(&mut self, i: Instr)
+        requires running { self.old.over ≡ None }
+        requires registers { NamesRegisters i }
+        ensures { self.new ≡ after self.old (performed_as (class_of i.op) self.old.state i) }
+    {
+        match i.op.class() {
+            Class::Arithmetic => self.compute(i),
+            Class::Branch => self.branch(i),
+            Class::Store => self.store(i),
+            Class::Ecall => self.ecall(),
+        }
+    }
+
+    /// Does an instruction that computes.
+    fn compute(&mut self, i: Instr)
+        requires running { self.old.over ≡ None }
+        requires registers { NamesRegisters i }
+        ensures { self.new ≡ after self.old (compute self.old.state i) }
+    {
+        self.arch.compute(i);
+        self.complete();
+    }
+
+    /// Does a branch.
+    fn branch(&mut self, i: Instr)
+        requires running { self.old.over ≡ None }
+        requires registers { NamesRegisters i }
+        ensures { self.new ≡ after self.old (branch self.old.state i) }
+    {
+        let target = self.arch.after_branch(i);
+        self.jump(target);
+    }
+
+    /// Goes on at a target.
+    fn jump(&mut self, target: u64)
+        requires running { self.old.over ≡ None }
+        ensures { self.new ≡ after self.old (jump self.old.state target) }
+    {
+        if target % 4 == 0 {
+            self.arch.pc = target;
+            self.count = self.count.saturating_add(1);
+        } else {
+            self.fault(0, target);
+        }
+    }
+
+    /// Does a store.
+    fn store(&mut self, i: Instr)
+        requires running { self.old.over ≡ None }
+        requires registers { NamesRegisters i }
+        ensures { self.new ≡ after self.old (store self.old.state i) }
+    {
+        let address = self.arch.access_address(i);
+        let byte = (self.arch.regs.read(i.rs2) & 0xff) as u8;
+        if self.memory.store_byte(address, byte) {
+            self.complete();
+        } else {
+            self.fault(15, address);
+        }
+    }
+
+    /// Asks for the service that a7 names.
+    fn ecall(&mut self)
+        requires running { self.old.over ≡ None }
+        ensures { self.new ≡ after self.old (ecall self.old.state) }
+    {
+        let number = self.arch.regs.read(17);
+        if number == 93 {
+            self.exit();
+        } else {
+            self.serve(number);
+        }
+    }
+
+    /// Exits with the code in a0.
+    fn exit(&mut self)
+        ensures { self.new ≡ after self.old (Exited (signed 64 (register self.old.state 10))) }
+    {
+        let code = self.arch.regs.read(10).cast_signed();
+        self.over = Some(End::Exited(code));
+        self.count = self.count.saturating_add(1);
+    }
+
+    /// Does a service other than exit.
+    fn serve(&mut self, number: u64)
+        requires running { self.old.over ≡ None }
+        ensures { self.new ≡ after self.old (Next (answered self.old.state (service self.old.state number))) }
+    {
+        let value = self.answer(number);
+        self.arch.regs.write(10, value.cast_unsigned());
+        self.complete();
+    }
+
+    /// What a service answers; what it writes is written.
+    fn answer(&mut self, number: u64) -> i64
+        ensures value { result ≡ (service self.old.state number).value }
+        ensures written { let answer = service self.old.state number in
+            self.new ≡ record self.old { state = record self.old.state { output = self.old.state.output ++ answer.written } } }
+    {
+        if number == 64 {
+            let descriptor = self.arch.regs.read(10);
+            let address = self.arch.regs.read(11);
+            let count = self.arch.regs.read(12);
+            write(&self.memory, &mut self.output, descriptor, address, count)
+        } else {
+            -38
+        }
+    }
+
+    /// The instruction has completed, and the pc moves on.
+    fn complete(&mut self)
+        requires running { self.old.over ≡ None }
+        ensures { self.new ≡ after self.old (Next (record self.old.state { pc = following self.old.state })) }
+    {
+        self.arch.follow();
+        self.count = self.count.saturating_add(1);
+    }
+
+    /// The process ends at a fault.
+    fn fault(&mut self, cause: u8, tval: u64)
+        ensures { self.new ≡ after self.old (faulted self.old.state cause tval) }
+    {
+        self.over = Some(End::Faulted(Fault {
+            cause,
+            tval,
+            vstart: 0,
+        }));
+    }
+}
+
+/// The fault of bytes as a raw image, where they have one.
+fn raw_fault(bytes: &[u8]) -> Option<ImageFault>
+    ensures { result ≡ raw_fault bytes.now }
+{
+    let length = bytes.len() as u64;
+    if length == 0 || length % 4 != 0 {
+        return Some(ImageFault::RawLength(length));
+    }
+    let pages = length.div_ceil(4096) + 16;
+    if pages > 4096 {
+        Some(ImageFault::TooManyPages(pages))
+    } else {
+        None
+    }
+}
+
+/// The machine of bytes without a fault; `None` where memory is wanting.
+#[tactic(auto, unfolding(vx_flat::specs::Image::booted, vx_flat::specs::Image::raw_image))]
+fn begun(alloc: Global, bytes: &[u8]) -> Option<Alone>
+    requires { raw_fault bytes.now ≡ None }
+    ensures { IfSome result (λ m. m ≡ begun (raw_image bytes.now)) }
+{
+    let Ok(memory) = Memory::of_raw(alloc, bytes) else {
+        return None;
+    };
+    let Ok(output) = Vec::with_capacity(alloc, 1 << 20) else {
+        return None;
+    };
+    let arch = Arch {
+        regs: Regs::first(),
+        pc: 0x10000,
+    };
+    Some(Alone {
+        arch,
+        memory,
+        output,
+        count: 0,
+        over: None,
+    })
+}
+
+/// What a word means, as what comes next.
+fn meaning(word: u32) -> Upcoming
+    ensures { result ≡ meaning word (decoded word) }
+{
+    match decode(word) {
+        None => Upcoming::Illegal(word),
+        Some(i) => Upcoming::Instruction(i),
+    }
+}

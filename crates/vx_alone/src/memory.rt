@@ -1,0 +1,302 @@
+ghost use Rattle.std.specs.Prelude.{◌≡◌, ℕ, ◌+◌, ◌-◌, ◌*◌, ◌<◌, ◌≤◌, ◌%◌, ◌^◌, ◌++◌, List, min, true, false, None, IfOk, OnOk, MatchOption, vec_len, vec_capacity, if◌then◌else◌};
+ghost use Rattle.vx_base.specs.Numbers.{from_little_endian};
+ghost use Rattle.vx_base.specs.declared.machine.Want.TheVariants as want;
+ghost use Rattle.vx_flat.specs.Image.{raw_fault, raw_image};
+ghost use Rattle.vx_flat.specs.Memory.{permits, bytes_at, all_permit, put_byte, is_canonical};
+ghost use Rattle.vx_flat.specs.Service.{is_readable};
+ghost use Rattle.vx_alone.specs.Pages.{pages_of, IsRising, IsPlaceOf, IsGrantedAt, IsKept, Lacks, run_of};
+
+use std::alloc::{AllocError, Global};
+use std::marker::Model;
+use vx_base::{PageEntry, Perm, Want};
+
+/// How many bytes a page has.
+const PAGE_LEN: usize = 4096;
+
+/// The same, as a step of addresses.
+const PAGE_BYTES: u64 = PAGE_LEN as u64;
+
+/// The page at which a raw image begins.
+const IMAGE_PAGE: u64 = 0x10;
+
+/// The first page of the stack.
+const STACK_PAGE: u64 = 0x3ff_fff0;
+
+/// How many pages the stack has.
+const STACK_PAGES: usize = 16;
+
+/// The permissions of an image's pages: R and X.
+const IMAGE_PERM: Perm = Perm { bits: 5 };
+
+/// The permissions of the stack's pages: R and W.
+const STACK_PERM: Perm = Perm { bits: 6 };
+
+/// The memory of a process, by page: the entries of the mapped pages in rising order, and the bytes of all of them.
+#[derive(Debug, Drop)]
+pub struct Memory {
+    entries: Vec<PageEntry>,
+    bytes: Vec<u8>,
+}
+
+impl Model for Memory {
+    ghost use Rattle.vx_flat.specs.Memory.{Memory as FlatMemory};
+    ghost use Rattle.vx_alone.specs.Pages.{pages_of, IsKept};
+
+    ghost Value = { FlatMemory };
+
+    ghost view = { λ m. pages_of m.entries.items m.bytes.items };
+
+    ghost invariant = { λ m. IsKept m.entries.items m.bytes.items };
+}
+
+impl Memory {
+    /// The memory of a raw image that has no fault. Takes all the memory that it ever needs.
+    pub fn of_raw(alloc: Global, image: &[u8]) -> Result<Memory, AllocError>
+        requires { raw_fault image.now ≡ None }
+        ensures { IfOk result (λ memory. memory ≡ (raw_image image.now).pages) }
+    {
+        let count = image.len().div_ceil(PAGE_LEN);
+        let size = PAGE_LEN * (count + STACK_PAGES);
+        let mut bytes = Vec::with_capacity(alloc, size)?;
+        bytes.extend_from_slice(image)?;
+        bytes.resize(size, 0)?;
+        let mut entries = Vec::with_capacity(alloc, count + STACK_PAGES)?;
+        push_run(&mut entries, IMAGE_PAGE, count, IMAGE_PERM)?;
+        push_run(&mut entries, STACK_PAGE, STACK_PAGES, STACK_PERM)?;
+        Ok(Memory { entries, bytes })
+    }
+
+    /// Whether an access of this kind is let through at an address.
+    pub fn permits(&self, address: u64, want: Want) -> bool
+        ensures { result ≡ permits self.now address want }
+    {
+        granting(&self.entries, address, want).is_some()
+    }
+
+    /// The instruction word at an address that is a multiple of 4; `None` exactly where it can't be fetched.
+    pub fn word(&self, address: u64) -> Option<u32>
+        requires { address % 4 ≡ 0 }
+        ensures { MatchOption result (permits self.now address want.Fetch ≡ false) (λ word.
+            (permits self.now address want.Fetch ≡ true) × (word ≡ from_little_endian (bytes_at self.now address 4))) }
+    {
+        let place = granting(&self.entries, address, Want::Fetch)?;
+        let at = index_of(place, address);
+        Some(u32::from_le_bytes([
+            self.bytes[at],
+            self.bytes[at + 1],
+            self.bytes[at + 2],
+            self.bytes[at + 3],
+        ]))
+    }
+
+    /// Stores a byte where that is let through, and says whether it was.
+    pub fn store_byte(&mut self, address: u64, byte: u8) -> bool
+        ensures stored { result ≡ permits self.old address want.Store }
+        ensures memory { self.new ≡ (if result then put_byte self.old address byte else self.old) }
+    {
+        match granting(&self.entries, address, Want::Store) {
+            Some(place) => {
+                self.bytes[index_of(place, address)] = byte;
+                true
+            }
+            None => false,
+        }
+    }
+
+    /// Whether each of so many bytes from an address on can be read, and none lies past the last address.
+    pub fn is_readable(&self, address: u64, count: u64) -> bool
+        ensures { result ≡ is_readable self.now address count }
+    {
+        (count == 0 || count - 1 <= u64::MAX - address)
+            && all_readable(&self.entries, address, count)
+    }
+
+    /// Appends so many bytes from an address on, all of which can be read.
+    pub fn append_to(&self, address: u64, count: u64, out: &mut Vec<u8>)
+        requires readable { is_readable self.now address count ≡ true }
+        requires room { vec_len out.old + count ≤ vec_capacity out.old }
+        ensures bytes { out.new.items ≡ out.old.items ++ bytes_at self.now address count }
+        ensures capacity { vec_capacity out.old ≤ vec_capacity out.new }
+    {
+        append_readable(&self.entries, &self.bytes, address, count, out);
+    }
+}
+
+/// Appends so many entries with these permissions, for the pages from that number on.
+fn push_run(
+    entries: &mut Vec<PageEntry>,
+    number: u64,
+    count: usize,
+    perm: Perm,
+) -> Result<(), AllocError>
+    requires { number + count < 2 ^ 64 }
+    ensures { OnOk result (entries.new.items ≡ entries.old.items ++ run_of count number perm) }
+{
+    for i in 0..count {
+        entries.push(PageEntry {
+            page: number + i as u64,
+            perm,
+        })?;
+    }
+    Ok(())
+}
+
+/// Whether each of so many bytes from an address on can be read. Looks once at each page.
+fn all_readable(entries: &[PageEntry], address: u64, count: u64) -> bool
+    requires rising { IsRising entries.now }
+    requires within { address + count ≤ 2 ^ 64 }
+    ensures { (bytes : List ℕ) → result ≡ all_permit (pages_of entries.now bytes) address count want.Load }
+{
+    let mut done = 0;
+    while done < count {
+        let at = address + done;
+        let Some(_) = granting(entries, at, Want::Load) else {
+            return false;
+        };
+        done += count_on_page(at, count - done);
+    }
+    true
+}
+
+/// Appends so many bytes from an address on, all of which can be read. Looks once at each page.
+fn append_readable(entries: &[PageEntry], bytes: &[u8], address: u64, count: u64, out: &mut Vec<u8>)
+    requires kept { IsKept entries.now bytes.now }
+    requires readable { is_readable (pages_of entries.now bytes.now) address count ≡ true }
+    requires room { vec_len out.old + count ≤ vec_capacity out.old }
+    ensures bytes { out.new.items ≡ out.old.items ++ bytes_at (pages_of entries.now bytes.now) address count }
+    ensures capacity { vec_capacity out.old ≤ vec_capacity out.new }
+{
+    let mut done = 0;
+    while done < count {
+        let at = address + done;
+        let Some(place) = granting(entries, at, Want::Load) else {
+            unreachable!()
+        };
+        let step = count_on_page(at, count - done);
+        let start = index_of(place, at);
+        let _ = out.extend_from_slice(&bytes[start..start + step as usize]);
+        done += step;
+    }
+}
+
+/// How many of so many bytes from an address on lie on its page.
+fn count_on_page(address: u64, count: u64) -> u64
+    ensures { result ≡ min count (4096 - address % 4096) }
+{
+    count.min(PAGE_BYTES - address % PAGE_BYTES)
+}
+
+/// The index of the byte at an address of the page at a place.
+fn index_of(place: usize, address: u64) -> usize
+    requires { place < 2 ^ 51 }
+    ensures { result ≡ 4096 * place + address % 4096 }
+{
+    PAGE_LEN * place + (address % PAGE_BYTES) as usize
+}
+
+/// The place of an address's page, where an access of this kind is let through.
+fn granting(entries: &[PageEntry], address: u64, want: Want) -> Option<usize>
+    requires { IsRising entries.now }
+    ensures { MatchOption result ((bytes : List ℕ) → permits (pages_of entries.now bytes) address want ≡ false) (IsGrantedAt entries.now address want) }
+{
+    if !is_canonical(address) {
+        return None;
+    }
+    let Some(place) = place_of(entries, address / PAGE_BYTES) else {
+        return None;
+    };
+    if entries[place].perm.grants(want) {
+        Some(place)
+    } else {
+        None
+    }
+}
+
+/// Whether bits 63 to 39 of an address equal bit 38.
+fn is_canonical(address: u64) -> bool
+    ensures { result ≡ is_canonical address }
+{
+    let top = address >> 38;
+    top == 0 || top == (1 << 26) - 1
+}
+
+/// The place of the entry of a page, where one has it.
+fn place_of(entries: &[PageEntry], page: u64) -> Option<usize>
+    requires { IsRising entries.now }
+    ensures { MatchOption result (Lacks entries.now page) (IsPlaceOf entries.now page) }
+{
+    entries.binary_search_by_key(&page, |entry| entry.page).ok()
+}
+
+#[cfg(test)]
+mod tests {
+    use super::*;
+    use std::test::Fail;
+
+    #[test]
+    fn keeps_an_image_and_its_stack(rt: HostRuntime) -> Result<(), Fail> {
+        let mut memory = Memory::of_raw(rt.alloc(), &[0x13, 0x05, 0x10, 0x02, 0x73, 0, 0, 0])?;
+        assert_eq!(rt; memory.word(0x10000), Some(0x0210_0513));
+        assert_eq!(rt; memory.word(0x10004), Some(0x73));
+        assert_eq!(rt; memory.word(0x10ffc), Some(0));
+        assert_eq!(rt; memory.word(0x11000), None);
+        for (address, want, granted) in [
+            (0x10fff, Want::Fetch, true),
+            (0x10000, Want::Store, false),
+            (0x0fff, Want::Load, false),
+            (0x3f_ffff_0000, Want::Store, true),
+            (0x3f_ffff_ffff, Want::Load, true),
+            (0x3f_ffff_ffff, Want::Fetch, false),
+            (0x3f_fffe_ffff, Want::Load, false),
+            (0x40_0000_0000, Want::Load, false),
+            (0x80_0001_0000, Want::Load, false),
+        ] {
+            assert_eq!(rt; memory.permits(address, want), granted, "{address:x}");
+        }
+        Ok(())
+    }
+
+    // The bytes of a range, where it can be read.
+    fn read(
+        memory: &Memory,
+        alloc: Global,
+        address: u64,
+        count: usize,
+    ) -> Result<Option<Vec<u8>>, AllocError> {
+        if !memory.is_readable(address, count as u64) {
+            return Ok(None);
+        }
+        let mut out = Vec::with_capacity(alloc, count)?;
+        memory.append_to(address, count as u64, &mut out);
+        Ok(Some(out))
+    }
+
+    #[test]
+    fn reads_what_was_stored_across_pages(rt: HostRuntime) -> Result<(), Fail> {
+        let mut memory = Memory::of_raw(rt.alloc(), &[0x73, 0, 0, 0])?;
+        for (address, byte, stored) in [
+            (0x3f_ffff_0fff, 7, true),
+            (0x3f_ffff_1000, 9, true),
+            (0x10000, 1, false),
+        ] {
+            assert_eq!(rt; memory.store_byte(address, byte), stored, "{address:x}");
+        }
+        for (address, count, readable) in [
+            (0x3f_ffff_0000, 0x10000, true),
+            (0x3f_ffff_0000, 0x10001, false),
+            (0x10fff, 1, true),
+            (0x10fff, 2, false),
+            (0, 0, true),
+            (u64::MAX, 1, false),
+            (u64::MAX, 2, false),
+            (0x3f_ffff_0000, u64::MAX, false),
+        ] {
+            assert_eq!(rt; memory.is_readable(address, count), readable, "{address:x}");
+        }
+        let across = read(&memory, rt.alloc(), 0x3f_ffff_0ffe, 4)?;
+        assert_eq!(rt; across.ok_or("denied")?.as_slice(), [0, 7, 9, 0].as_slice());
+        let first = read(&memory, rt.alloc(), 0x10000, 2)?;
+        assert_eq!(rt; first.ok_or("denied")?.as_slice(), [0x73, 0].as_slice());
+        Ok(())
+    }
+}
