@@ -1,0 +1,11 @@
+use Rattle.std.proofs.Common.{◌≡◌, ◌≤◌, ◌^◌, ◌-◌}
+use Rattle.std.specs.Prelude.{None}
+use Rattle.vx_system.specs.Runs.{StepsTo}
+use Rattle.vx_system.proofs.episode.run_episode.Given as goal
+
+-- the process goes on, and has taken steps up to the last retire
+abbrev pub invariant-loop-next : goal.invariant-loop-next
+invariant-loop-next l = (l.process.over ≡ None) × StepsTo l.fn.process l.process l.start l.retired × (l.retired ≤ 2 ^ 41)
+
+abbrev pub decreases-loop-next : goal.decreases-loop-next
+decreases-loop-next l = l.until - l.retired

@@ -1,0 +1,12 @@
+-- The account that a process's report tells.
+use Rattle.vx_machine.specs.Accounts.{Account, standing_of}
+use Rattle.vx_system.specs.declared.report.ProcessReport.{ProcessReport}
+
+abbrev pub told : ProcessReport → Account
+told process = record {
+  standing = standing_of process.pc process.over;
+  instructions = process.instructions;
+  cycles = process.cycles;
+  misses = process.misses;
+  output = process.output.now;
+}

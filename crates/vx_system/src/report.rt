@@ -1,0 +1,170 @@
+ghost use Rattle.std.specs.Prelude.{◌≡◌, ◌+◌, ◌<◌, ◌++◌, ◌∷◌, [], codes, decimal, length, IfOk, OnOk, Some, None, string_bytes};
+ghost use Rattle.vx_machine.specs.Accounts.{Account, standing_of};
+ghost use Rattle.vx_system.specs.Told.{told};
+ghost use Rattle.vx_words.specs.Lines.{line};
+ghost use Rattle.vx_machine.specs.Report.{standing_words, process_text, stop_word, hex_digit, hex_digits};
+
+use std::alloc::{AllocError, Global};
+use vx_base::Fault;
+use vx_flat::End;
+use vx_machine::Stop;
+
+/// What the report tells of a process.
+#[derive(Clone, Copy, Debug)]
+pub struct ProcessReport<'a> {
+    pub over: Option<End>,
+    pub pc: u64,
+    pub instructions: u64,
+    pub cycles: u64,
+    pub misses: u64,
+    pub output: &'a [u8],
+}
+
+/// The hexadecimal digit, 0 to 9 and a to f, of a number below 16.
+fn hex_digit(n: u8) -> u8
+    requires { n < 16 }
+    ensures { result ≡ hex_digit n }
+{
+    if n < 10 { b'0' + n } else { b'a' - 10 + n }
+}
+
+/// Appends the last `count` hexadecimal digits of a number.
+fn push_hex(text: &mut Vec<u8>, count: u32, n: u64) -> Result<(), AllocError>
+    ensures { OnOk result (text.new.items ≡ text.old.items ++ hex_digits count n) }
+{
+    if count > 0 {
+        push_hex(text, count - 1, n / 16)?;
+        text.push(hex_digit((n % 16) as u8))?;
+    }
+    Ok(())
+}
+
+/// Appends words.
+fn push_words(text: &mut Vec<u8>, words: &str) -> Result<(), AllocError>
+    ensures { OnOk result (text.new.items ≡ text.old.items ++ words.now) }
+{
+    text.extend_from_slice(words.as_bytes())?;
+    Ok(())
+}
+
+/// Appends the line of a process that exited.
+fn push_exited(alloc: Global, text: &mut Vec<u8>, number: u32, code: i64) -> Result<(), AllocError>
+    ensures { OnOk result (text.new.items ≡ text.old.items ++ line (codes "process " ∷ decimal number ∷ codes ": " ∷ standing_words (standing_of 0 (Some (End.Exited code))))) }
+{
+    let start = format!(in alloc; "process {number}: exited {code}\n")?;
+    text.extend_from_slice(start.as_bytes())?;
+    Ok(())
+}
+
+/// Appends the line of a process that faulted.
+fn push_faulted(
+    alloc: Global,
+    text: &mut Vec<u8>,
+    number: u32,
+    fault: Fault,
+    pc: u64,
+) -> Result<(), AllocError>
+    ensures { OnOk result (text.new.items ≡ text.old.items ++ line (codes "process " ∷ decimal number ∷ codes ": " ∷ standing_words (standing_of pc (Some (End.Faulted fault))))) }
+{
+    let cause = fault.cause;
+    let start = format!(in alloc; "process {number}: faulted cause {cause} pc 0x")?;
+    text.extend_from_slice(start.as_bytes())?;
+    push_hex(text, 16, pc)?;
+    push_words(text, " tval 0x")?;
+    push_hex(text, 16, fault.tval)?;
+    let vstart = fault.vstart;
+    let end = format!(in alloc; " vstart {vstart}\n")?;
+    text.extend_from_slice(end.as_bytes())?;
+    Ok(())
+}
+
+/// Appends the line of a process that was stopped.
+fn push_stopped(alloc: Global, text: &mut Vec<u8>, number: u32, pc: u64) -> Result<(), AllocError>
+    ensures { OnOk result (text.new.items ≡ text.old.items ++ line (codes "process " ∷ decimal number ∷ codes ": " ∷ standing_words (standing_of pc None))) }
+{
+    let start = format!(in alloc; "process {number}: stopped pc 0x")?;
+    text.extend_from_slice(start.as_bytes())?;
+    push_hex(text, 16, pc)?;
+    let vstart = 0u32;
+    let end = format!(in alloc; " vstart {vstart}\n")?;
+    text.extend_from_slice(end.as_bytes())?;
+    Ok(())
+}
+
+/// Appends the line that tells how a process stands.
+fn push_standing(
+    alloc: Global,
+    text: &mut Vec<u8>,
+    number: u32,
+    process: &ProcessReport<'_>,
+) -> Result<(), AllocError>
+    ensures { OnOk result (text.new.items ≡ text.old.items ++ line (codes "process " ∷ decimal number ∷ codes ": " ∷ standing_words (standing_of process.now.pc process.now.over))) }
+{
+    match process.over {
+        Some(End::Exited(code)) => push_exited(alloc, text, number, code),
+        Some(End::Faulted(fault)) => push_faulted(alloc, text, number, fault, process.pc),
+        None => push_stopped(alloc, text, number, process.pc),
+    }
+}
+
+/// Appends the line of a process's counts.
+fn push_counts(
+    alloc: Global,
+    text: &mut Vec<u8>,
+    process: &ProcessReport<'_>,
+) -> Result<(), AllocError>
+    ensures { OnOk result (text.new.items ≡ text.old.items ++ line (codes "  instructions " ∷ decimal process.now.instructions ∷ codes " cycles " ∷ decimal process.now.cycles ∷ codes " misses " ∷ decimal process.now.misses ∷ [])) }
+{
+    let instructions = process.instructions;
+    let cycles = process.cycles;
+    let misses = process.misses;
+    let counts = format!(in alloc;
+        "  instructions {instructions} cycles {cycles} misses {misses}\n"
+    )?;
+    text.extend_from_slice(counts.as_bytes())?;
+    Ok(())
+}
+
+/// Appends what a process wrote, behind a line with its length.
+fn push_output(alloc: Global, text: &mut Vec<u8>, output: &[u8]) -> Result<(), AllocError>
+    ensures { OnOk result (text.new.items ≡ text.old.items ++ line (codes "  output " ∷ decimal (length output.now) ∷ []) ++ line (output.now ∷ [])) }
+{
+    let count = output.len();
+    let start = format!(in alloc; "  output {count}\n")?;
+    text.extend_from_slice(start.as_bytes())?;
+    text.extend_from_slice(output)?;
+    text.push(b'\n')?;
+    Ok(())
+}
+
+/// Appends what the report tells of the process of that number.
+pub fn push_process(
+    alloc: Global,
+    text: &mut Vec<u8>,
+    number: u32,
+    process: &ProcessReport<'_>,
+) -> Result<(), AllocError>
+    ensures { OnOk result (text.new.items ≡ text.old.items ++ process_text number (told process.now)) }
+{
+    push_standing(alloc, text, number, process)?;
+    push_counts(alloc, text, process)?;
+    push_output(alloc, text, process.output)?;
+    Ok(())
+}
+
+/// Appends the line that ends the report.
+pub fn push_total(
+    alloc: Global,
+    text: &mut Vec<u8>,
+    total: u64,
+    stop: Stop,
+) -> Result<(), AllocError>
+    ensures { OnOk result (text.new.items ≡ text.old.items ++ line (codes "total " ∷ decimal total ∷ codes " cycles, " ∷ stop_word stop ∷ [])) }
+{
+    let end = match stop {
+        Stop::Done => format!(in alloc; "total {total} cycles, done\n")?,
+        Stop::Spent => format!(in alloc; "total {total} cycles, spent\n")?,
+    };
+    text.extend_from_slice(end.as_bytes())?;
+    Ok(())
+}
