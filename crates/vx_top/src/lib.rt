@@ -1,0 +1,14 @@
+//! The program's call `vexec`, and the real shelf and sink that the program hands in.
+//!
+//! It stands on `vx_system`, which runs the machine, and on the definitions of `vx_words` and `vx_machine`. To the program
+//! it gives `vexec`, whose contract is the whole claim, and `FileShelf` and `OutSink`.
+#![tactic(auto)]
+
+mod file_shelf;
+mod notes;
+mod out_sink;
+mod words;
+
+pub use file_shelf::FileShelf;
+pub use out_sink::OutSink;
+pub use words::raw_name;
