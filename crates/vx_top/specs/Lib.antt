@@ -1,3 +1,4 @@
-pub mod Spelled
-pub mod Noted
 pub mod Adapters
+pub mod Files
+pub mod Noted
+pub mod Spelled

@@ -4,11 +4,16 @@
 //! it gives `vexec`, whose contract is the whole claim, and `FileShelf` and `OutSink`.
 #![tactic(auto)]
 
+mod call;
 mod file_shelf;
 mod notes;
 mod out_sink;
+mod refusal;
+mod run;
+mod tell;
 mod words;
 
+pub use call::vexec;
 pub use file_shelf::FileShelf;
 pub use out_sink::OutSink;
-pub use words::raw_name;
+pub use vx_words::Status;

@@ -1,0 +1,73 @@
+ghost use Rattle.std.specs.Prelude.{◌≡◌, string_bytes, MatchResult};
+ghost use Rattle.vx_top.specs.Files.{TellsRefusal, TellsReport};
+ghost use Rattle.vx_top.specs.Noted.{Noted, NotesWant};
+
+use crate::notes;
+use crate::refusal::Refusal;
+use crate::run::Report;
+use std::alloc::{AllocError, Global};
+use vx_base::{Sink, write_text};
+use vx_machine::Stop;
+use vx_words::Status;
+
+/// Writes a note. A fault of its sink changes nothing.
+fn write_note<N: Sink>(note: &mut N, text: &str)
+    ensures { Noted (N.state note.old) (N.state note.new) text.now }
+{
+    match write_text(note, text.as_bytes()) {
+        Ok(()) => {}
+        Err(_) => {}
+    }
+}
+
+/// Notes that memory was wanting.
+fn tell_want<N: Sink>(note: &mut N) -> Status
+    ensures { NotesWant (N.state note.old) (N.state note.new) result }
+{
+    write_note(note, notes::no_memory());
+    Status::NoMemory
+}
+
+/// Answers the status with its note; where memory was wanting for that, notes that.
+pub fn tell<N: Sink>(note: &mut N, status: Status, text: Result<String, AllocError>) -> Status
+    ensures { MatchResult text (λ t. (result ≡ status) × Noted (N.state note.old) (N.state note.new) (string_bytes t)) (λ _. NotesWant (N.state note.old) (N.state note.new) result) }
+{
+    match text {
+        Ok(text) => {
+            write_note(note, text.as_str());
+            status
+        }
+        Err(_) => tell_want(note),
+    }
+}
+
+/// Tells why the file of that name gives no report.
+pub fn tell_refusal<N: Sink>(alloc: Global, name: &str, refusal: Refusal, note: &mut N) -> Status
+    ensures { TellsRefusal (N.state note.old) (N.state note.new) name.now refusal result }
+{
+    match refusal {
+        Refusal::ReadFault => tell(note, Status::ReadFault, notes::read_failed(alloc, name)),
+        Refusal::BadImage(fault) => tell(
+            note,
+            Status::BadImage,
+            notes::bad_image(alloc, name, fault),
+        ),
+        Refusal::NoMemory => tell_want(note),
+    }
+}
+
+/// Writes the report, and a note where it could not be written whole.
+pub fn tell_report<K: Sink, N: Sink>(report: &Report, out: &mut K, note: &mut N) -> Status
+    ensures { TellsReport (K.state out.old) (K.state out.new) (N.state note.old) (N.state note.new) report.now result }
+{
+    match write_text(out, report.text.slice()) {
+        Ok(()) => match report.stop {
+            Stop::Done => Status::Done,
+            Stop::Spent => Status::Spent,
+        },
+        Err(_) => {
+            write_note(note, notes::write_failed());
+            Status::WriteFault
+        }
+    }
+}
