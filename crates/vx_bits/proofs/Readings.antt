@@ -1,8 +1,8 @@
 -- The two readings of a number's low bits, and what is left of a number at a width.
-use Rattle.std.proofs.Common.{◌≡◌, ℕ, zero, suc, ◌+◌, ◌-◌, ◌*◌, ◌/◌, ◌%◌, ◌^◌, ◌<◌, ◌≤◌, Bool, true, false, ltb, IsTrue, nat_eq, nat_lt, if◌then◌else◌, cond, bit_and, ℤ, pos, negsuc, ◌-ℤ◌, nat_abs, FitsSigned, to_z, of_z, w64, refl, sym, ap, ⊎_elim, eq-or-lt_of_le, lit<, ◌∙◌, subst, arith, pow_pos, pow_mono, mod-lt, mod-eq_of_lt, div-add-mod', mul-le-mul_right, lt-ltb, le-ltb, eqb→eq}
+use Rattle.std.proofs.Common.{◌≡◌, ℕ, suc, ◌+◌, ◌-◌, ◌*◌, ◌/◌, ◌%◌, ◌^◌, ◌<◌, ◌≤◌, IsTrue, if◌then◌else◌, bit_and, ℤ, pos, negsuc, ◌-ℤ◌, nat_abs, FitsSigned, to_z, of_z, w64, sym, ap, ⊎_elim, eq-or-lt_of_le, lit<, ◌∙◌, subst, arith, pow_pos, pow_mono, mod-lt, div-add-mod', lt-ltb, le-ltb}
 use Rattle.std.specs.Int.{w128}
 use Rattle.std.proofs.Math.Arith.{mul_pred, digits_mod}
-use Rattle.std.proofs.lemmas.Nat.{pow-add, and_mask, mod-pow-add, mod_low, shr_high, mul-mod, mul-mod_first, div_below}
+use Rattle.std.proofs.lemmas.Nat.{pow-add, and_mask, mod-pow-add, mod_low, shr_high, div_below}
 use Rattle.std.proofs.lemmas.Int.{ints, to_z_pos, to_z-of_z}
 use Rattle.vx_base.specs.Numbers.{reduced, signed}
 use Rattle.vx_bits.specs.Width.{is_width}
@@ -33,11 +33,11 @@ double_half width h =
     let one_more : width - 1 + 1 ≡ width = omega arith in
     ap (λ n. 2 ^ n) (sym one_more) ∙ pow-add 2 (width - 1) 1
 
--- what is left at 64 bits and then at fewer
-pub mod-narrow : (n width : ℕ) → width ≤ 64 → n % 2 ^ 64 % 2 ^ width ≡ n % 2 ^ width
-mod-narrow n width h =
-    let rest = 64 - width in
-    let whole : rest + width ≡ 64 = omega arith in
+-- what is left at a width and then at a narrower one
+pub mod-narrow : (n all width : ℕ) → width ≤ all → n % 2 ^ all % 2 ^ width ≡ n % 2 ^ width
+mod-narrow n all width h =
+    let rest = all - width in
+    let whole : rest + width ≡ all = omega arith in
     ap (λ k. n % 2 ^ k % 2 ^ width) (sym whole) ∙ ap (λ m. m % 2 ^ width) (mod-pow-add n rest width) ∙ mod_low (n / 2 ^ width % 2 ^ rest) width (n % 2 ^ width) (mod-lt n (pow_pos width))
 
 -- ---- the range of a width
@@ -115,3 +115,14 @@ reduced-wrapped width (pos n) h l = ⊎_elim at_top below (eq-or-lt_of_le l)
     below : n < 2 ^ 63 → reduced width (to_z w64 n) ≡ n % 2 ^ width
     below k = ap (reduced width) (to_z_pos w64 n k)
 reduced-wrapped width (negsuc n) h l = let f : FitsSigned w64 (negsuc n) = record { sfits = l } in ap (reduced width) (to_z-of_z w64 (negsuc n) f)
+
+pub reduced-lt : (width : ℕ) (v : ℤ) → reduced width v < 2 ^ width
+reduced-lt width (pos n) = mod-lt n (pow_pos width)
+reduced-lt width (negsuc n) = let some = pow_pos width in omega arith
+
+pub reduced-narrow : (all width : ℕ) (v : ℤ) → width ≤ all → reduced all v % 2 ^ width ≡ reduced width v
+reduced-narrow all width (pos n) h = mod-narrow n all width h
+reduced-narrow all width (negsuc n) h =
+    let small = mod-lt n (pow_pos all) in
+    let is : 2 ^ all - 1 - n % 2 ^ all ≡ 2 ^ all - suc (n % 2 ^ all) = omega arith in
+    ap (λ k. k % 2 ^ width) is ∙ negative_bits all width (n % 2 ^ all) h small ∙ ap (λ k. 2 ^ width - 1 - k) (mod-narrow n all width h)

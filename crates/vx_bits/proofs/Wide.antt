@@ -1,11 +1,11 @@
 -- Numbers of 64 bits that are computed with at 128 bits, and quotients.
-use Rattle.std.proofs.Common.{◌≡◌, ℕ, zero, suc, ◌+◌, ◌-◌, ◌*◌, ◌/◌, ◌%◌, ◌^◌, ◌<◌, ◌≤◌, Bool, true, false, if◌then◌else◌, ℤ, pos, negsuc, neg_ℤ, ◌+ℤ◌, ◌-ℤ◌, ◌*ℤ◌, nat_abs, int_div, int_rem, FitsSigned, to_z, of_z, w64, refl, sym, ap, ◌∙◌, subst, ⊎_elim, arith, lit<, lit≤, mul-le-mul, div-le_self}
+use Rattle.std.proofs.Common.{◌≡◌, ℕ, zero, suc, ◌-◌, ◌/◌, ◌^◌, ◌<◌, ◌≤◌, false, if◌then◌else◌, ℤ, pos, negsuc, neg_ℤ, ◌+ℤ◌, ◌-ℤ◌, ◌*ℤ◌, nat_abs, int_div, int_rem, FitsSigned, to_z, of_z, w64, refl, sym, ap, ◌∙◌, ⊎_elim, arith, mul-le-mul, div-le_self}
 use Rattle.std.specs.Int.{w128, int_shr}
 use Rattle.std.specs.Ordering.{int_eq}
 use Rattle.std.proofs.lemmas.Bool.{cases_Bool}
 use Rattle.std.proofs.lemmas.Bool.Decides.{Decides-int_eq}
 use Rattle.std.proofs.lemmas.Int.{ints, to_z_pos, to_z-of_z, fits_signed_from_abs, unsigned_abs-mul}
-use lib.Signed.{mag, mag_shr, nat_abs-le}
+use lib.Signed.{mag_shr, nat_abs-le}
 use Rattle.vx_base.specs.Numbers.{reduced}
 use Rattle.vx_bits.specs.Arithmetic.{quotient, remainder}
 use Rattle.vx_bits.proofs.Readings.{reduced-wrapped}

@@ -1,6 +1,6 @@
 -- Integer arithmetic at a width: the result over the whole numbers, reduced to the width.
 -- RISC-V Unprivileged ISA 20191213, section 2.4 and chapter 7; RISC-V "V" 1.0, sections 11.1, 11.6, 11.10 and 11.11.
-use Rattle.std.specs.Prelude.{ℕ, ◌+◌, ◌*◌, ◌/◌, ◌%◌, ◌^◌, ◌==◌, if◌then◌else◌, ℤ, pos, negsuc, ◌-ℤ◌, ◌*ℤ◌, int_div, int_rem}
+use Rattle.std.specs.Prelude.{ℕ, ◌+◌, ◌*◌, ◌/◌, ◌%◌, ◌^◌, if◌then◌else◌, ℤ, pos, negsuc, ◌-ℤ◌, ◌*ℤ◌, int_div, int_rem}
 use Rattle.std.specs.Int.{int_shr}
 use Rattle.std.specs.Ordering.{int_eq}
 use Rattle.vx_base.specs.Numbers.{reduced}

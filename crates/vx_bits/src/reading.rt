@@ -15,7 +15,8 @@ pub fn mask(width: u32) -> u64
 pub fn low(width: u32, a: u64) -> u64
     requires positive { 0 < width }
     requires fits { width ≤ 64 }
-    ensures { result ≡ unsigned_at width a }
+    ensures value { result ≡ unsigned_at width a }
+    ensures below { result < 2 ^ width }
 {
     a & mask(width)
 }
@@ -39,7 +40,8 @@ pub fn signed_reading(width: u32, a: u64) -> i64
 pub fn reduce(width: u32, v: i128) -> u64
     requires positive { 0 < width }
     requires fits { width ≤ 64 }
-    ensures { result ≡ reduced width v }
+    ensures value { result ≡ reduced width v }
+    ensures below { result < 2 ^ width }
 {
     (v & mask(width) as i128) as u64
 }

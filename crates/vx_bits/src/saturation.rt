@@ -1,4 +1,4 @@
-ghost use Rattle.std.specs.Prelude.{◌≡◌, ◌<◌, ◌≤◌, IsTrue, false, true};
+ghost use Rattle.std.specs.Prelude.{◌≡◌, ◌<◌, ◌≤◌, ◌^◌, IsTrue, false, true};
 ghost use Rattle.vx_bits.specs.Saturation.{least_at, greatest_at, fitted_at, unsigned_saturated_sum_at, signed_saturated_sum_at, unsigned_saturated_difference_at, signed_saturated_difference_at};
 ghost use Rattle.vx_bits.specs.Width.{is_width};
 
@@ -40,7 +40,8 @@ fn greatest(width: u32, signed: bool) -> i128
 /// `v` clipped to the signed or unsigned range of the width, with `sat` where that changed it.
 pub fn fit_at(width: u32, signed: bool, v: i128) -> Sat
     requires { IsTrue (is_width width) }
-    ensures { result ≡ fitted_at width signed v }
+    ensures fitted { result ≡ fitted_at width signed v }
+    ensures below { result.value < 2 ^ width }
 {
     let clipped = v.min(greatest(width, signed)).max(least(width, signed));
     Sat {
@@ -52,7 +53,8 @@ pub fn fit_at(width: u32, signed: bool, v: i128) -> Sat
 /// The sum of two unsigned numbers, clipped.
 pub fn saddu_at(width: u32, a: u64, b: u64) -> Sat
     requires { IsTrue (is_width width) }
-    ensures { result ≡ unsigned_saturated_sum_at width a b }
+    ensures fitted { result ≡ unsigned_saturated_sum_at width a b }
+    ensures below { result.value < 2 ^ width }
 {
     fit_at(width, false, low(width, a) as i128 + low(width, b) as i128)
 }
@@ -60,7 +62,8 @@ pub fn saddu_at(width: u32, a: u64, b: u64) -> Sat
 /// The sum of two signed numbers, clipped.
 pub fn sadd_at(width: u32, a: u64, b: u64) -> Sat
     requires { IsTrue (is_width width) }
-    ensures { result ≡ signed_saturated_sum_at width a b }
+    ensures fitted { result ≡ signed_saturated_sum_at width a b }
+    ensures below { result.value < 2 ^ width }
 {
     let sum = signed_reading(width, a) as i128 + signed_reading(width, b) as i128;
     fit_at(width, true, sum)
@@ -69,7 +72,8 @@ pub fn sadd_at(width: u32, a: u64, b: u64) -> Sat
 /// An unsigned `a` less an unsigned `b`, clipped.
 pub fn ssubu_at(width: u32, a: u64, b: u64) -> Sat
     requires { IsTrue (is_width width) }
-    ensures { result ≡ unsigned_saturated_difference_at width a b }
+    ensures fitted { result ≡ unsigned_saturated_difference_at width a b }
+    ensures below { result.value < 2 ^ width }
 {
     fit_at(width, false, low(width, a) as i128 - low(width, b) as i128)
 }
@@ -77,7 +81,8 @@ pub fn ssubu_at(width: u32, a: u64, b: u64) -> Sat
 /// A signed `a` less a signed `b`, clipped.
 pub fn ssub_at(width: u32, a: u64, b: u64) -> Sat
     requires { IsTrue (is_width width) }
-    ensures { result ≡ signed_saturated_difference_at width a b }
+    ensures fitted { result ≡ signed_saturated_difference_at width a b }
+    ensures below { result.value < 2 ^ width }
 {
     let difference = signed_reading(width, a) as i128 - signed_reading(width, b) as i128;
     fit_at(width, true, difference)

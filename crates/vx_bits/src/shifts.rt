@@ -1,4 +1,4 @@
-ghost use Rattle.std.specs.Prelude.{◌≡◌, ◌<◌, ◌≤◌, IsTrue};
+ghost use Rattle.std.specs.Prelude.{◌≡◌, ◌<◌, ◌^◌, IsTrue};
 ghost use Rattle.vx_bits.specs.Arithmetic.{shift_amount, shifted_left_at, shifted_right_at, sign_shifted_right_at};
 ghost use Rattle.vx_bits.specs.Width.{is_width};
 
@@ -16,7 +16,8 @@ fn amount(width: u32, b: u64) -> u32
 /// `a` shifted left by `b` modulo the width.
 pub fn sll_at(width: u32, a: u64, b: u64) -> u64
     requires { IsTrue (is_width width) }
-    ensures { result ≡ shifted_left_at width a b }
+    ensures value { result ≡ shifted_left_at width a b }
+    ensures below { result < 2 ^ width }
 {
     low(width, a << amount(width, b))
 }
@@ -24,7 +25,8 @@ pub fn sll_at(width: u32, a: u64, b: u64) -> u64
 /// `a` shifted right by `b` modulo the width, with zeros coming in.
 pub fn srl_at(width: u32, a: u64, b: u64) -> u64
     requires { IsTrue (is_width width) }
-    ensures { result ≡ shifted_right_at width a b }
+    ensures value { result ≡ shifted_right_at width a b }
+    ensures below { result < 2 ^ width }
 {
     low(width, a) >> amount(width, b)
 }
@@ -32,7 +34,8 @@ pub fn srl_at(width: u32, a: u64, b: u64) -> u64
 /// `a` shifted right by `b` modulo the width, with copies of its sign coming in.
 pub fn sra_at(width: u32, a: u64, b: u64) -> u64
     requires { IsTrue (is_width width) }
-    ensures { result ≡ sign_shifted_right_at width a b }
+    ensures value { result ≡ sign_shifted_right_at width a b }
+    ensures below { result < 2 ^ width }
 {
     let shifted = signed_reading(width, a) >> amount(width, b);
     reduce(width, shifted as i128)

@@ -1,4 +1,4 @@
-use Rattle.std.proofs.Common.{◌≡◌, ◌+◌, ◌-◌, ◌/◌, ◌%◌, ◌^◌, ◌<◌, ◌≤◌, bit_and, ap, ◌∙◌, mod-lt, pow_pos}
+use Rattle.std.proofs.Common.{◌%◌, ◌^◌, bit_and, ap, ◌∙◌, mod-lt, pow_pos}
 use Rattle.std.proofs.lemmas.Nat.{and_mask}
 use Rattle.vx_bits.proofs.Readings.{signed-small, signed-large}
 use Rattle.vx_bits.proofs.reading.signed_reading.Goals as goal

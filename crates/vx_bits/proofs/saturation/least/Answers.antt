@@ -1,4 +1,4 @@
-use Rattle.std.proofs.Common.{◌/◌, ◌^◌, ◌-ℤ◌, negsuc, pos, neg_ℤ, to_z, of_z, ◌-◌, if◌then◌else◌, ap, sym, ◌∙◌}
+use Rattle.std.proofs.Common.{◌/◌, ◌-ℤ◌, negsuc, to_z, of_z, ap, sym, ◌∙◌}
 use Rattle.std.specs.Int.{w128}
 use Rattle.vx_bits.specs.Saturation.{least_at}
 use Rattle.vx_bits.proofs.Bounds.{least-is}
