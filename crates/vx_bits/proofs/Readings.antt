@@ -57,7 +57,7 @@ signed-small width n p f h =
     let below : n < 2 ^ (width - 1) = omega arith in
     let within : width - 1 ≤ 63 = omega arith in
     let power : 2 ^ (width - 1) ≤ 2 ^ 63 = pow_mono within in
-    to_z_pos w64 n (omega arith) ∙ ap (λ t. if t then pos n else (pos n -ℤ pos (2 ^ width))) (sym (lt-ltb n (2 ^ (width - 1)) below))
+    to_z_pos w64 n (omega arith) ∙ ap (λ t. if t then pos n else negsuc (2 ^ width - 1 - n)) (sym (lt-ltb n (2 ^ (width - 1)) below))
 
 pub signed-large : (width n : ℕ) → 0 < width → width ≤ 64 → (2 ^ width - 1) / 2 < n → n < 2 ^ width → to_z w64 (of_z w64 (negsuc 0 -ℤ to_z w64 (2 ^ width - 1 - n))) ≡ signed width n
 signed-large width n p f h l =
@@ -67,8 +67,8 @@ signed-large width n p f h l =
     let above : 2 ^ (width - 1) ≤ n = omega arith in
     let within : width - 1 ≤ 63 = omega arith in
     let power : 2 ^ (width - 1) ≤ 2 ^ 63 = pow_mono within in
-    let value : to_z w64 (of_z w64 (negsuc 0 -ℤ to_z w64 (2 ^ width - 1 - n))) ≡ (pos n -ℤ pos (2 ^ width)) = omega (arith, ints) in
-    value ∙ ap (λ t. if t then pos n else (pos n -ℤ pos (2 ^ width))) (sym (le-ltb n (2 ^ (width - 1)) above))
+    let value : to_z w64 (of_z w64 (negsuc 0 -ℤ to_z w64 (2 ^ width - 1 - n))) ≡ negsuc (2 ^ width - 1 - n) = omega (arith, ints) in
+    value ∙ ap (λ t. if t then pos n else negsuc (2 ^ width - 1 - n)) (sym (le-ltb n (2 ^ (width - 1)) above))
 
 -- ---- what is left at a width
 
