@@ -1,0 +1,4 @@
+pub mod Bounds
+pub mod Readings
+pub mod Ties
+pub mod Wide

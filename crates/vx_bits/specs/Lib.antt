@@ -1,0 +1,4 @@
+pub mod Arithmetic
+pub mod Rounding
+pub mod Saturation
+pub mod Width
