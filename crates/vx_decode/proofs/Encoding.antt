@@ -1,5 +1,5 @@
 -- A word and its instruction.
-use Rattle.std.proofs.Common.{◌≡◌, ℕ, ◌+◌, ◌^◌, ◌<◌, Bool, true, false, cond, List, [], ◌∷◌, map, filter, find, Option, Some, None, option_map, ap, sym, refl, ◌∙◌, bit_and}
+use Rattle.std.proofs.Common.{◌≡◌, ℕ, ◌+◌, ◌^◌, ◌<◌, Bool, true, false, cond, List, [], ◌∷◌, map, filter, find, Option, Some, None, option_map, ap, sym, subst, refl, ◌∙◌, bit_and}
 use Rattle.std.proofs.lemmas.Bool.{eqb-true, eq-eqb}
 use Rattle.vx_rows.specs.Table.{value_of, shape_of, mask_of, row, operations, table, has_bits_of, row_of}
 use Rattle.vx_rows.specs.declared.op.Op.{Op}
@@ -9,10 +9,10 @@ use Rattle.vx_rows.specs.declared.row.Row.{Row}
 use Rattle.vx_rows.specs.declared.row.Shape.{Shape}
 use Rattle.vx_rows.specs.declared.row.Shape.TheVariants.{Registers}
 use Rattle.vx_decode.specs.Decoded.{decoded, with_operands}
-use Rattle.vx_decode.specs.Encoded.{IsValid, operand_bits_of}
+use Rattle.vx_decode.specs.Encoded.{HasOperands, IsValid, operand_bits_of}
 use Rattle.vx_decode.specs.Lookup.{may_fit}
 use Rattle.vx_decode.specs.declared.instr.Instr.{Instr}
-use Rattle.vx_decode.proofs.Operands.{Places, word-parts, operands-places}
+use Rattle.vx_decode.proofs.Operands.{Places, has-operands, word-parts, operands-places}
 use Rattle.vx_decode.proofs.Rows.{find-may_fit}
 
 -- an operation's fixed bits lie under its mask
@@ -59,6 +59,26 @@ encoded-only word i fits e =
     let h = found word i operations e in
     let same : h.op ≡ i.op = sym (op-with_operands (shape_of h.op) word h.op) ∙ ap (λ (j : Instr). j.op) h.is in
     word-parts (shape_of h.op) word h.op fits
-        ∙ ap (λ x. x + operand_bits_of (shape_of h.op) (with_operands word h.op (shape_of h.op))) h.known
-        ∙ ap (λ j. value_of h.op + operand_bits_of (shape_of h.op) j) h.is
-        ∙ ap (λ op. value_of op + operand_bits_of (shape_of op) i) same
+    ∙ ap (λ x. x + operand_bits_of (shape_of h.op) (with_operands word h.op (shape_of h.op))) h.known
+    ∙ ap (λ j. value_of h.op + operand_bits_of (shape_of h.op) j) h.is
+    ∙ ap (λ op. value_of op + operand_bits_of (shape_of op) i) same
+
+vm-with_operands : (shape : Shape) (word : ℕ) (op : Op) → (with_operands word op shape).vm ≡ true
+vm-with_operands Registers word op = refl
+vm-with_operands _ word op = refl
+
+nf-with_operands : (shape : Shape) (word : ℕ) (op : Op) → (with_operands word op shape).nf ≡ 0
+nf-with_operands Registers word op = refl
+nf-with_operands _ word op = refl
+
+pub decoded-valid : (word : ℕ) (i : Instr) → decoded word ≡ Some i → IsValid i
+decoded-valid word i e =
+    let h = found word i operations e in
+    let shape = shape_of h.op in
+    let same : h.op ≡ i.op = sym (op-with_operands shape word h.op) ∙ ap (λ (j : Instr). j.op) h.is in
+    let here : HasOperands shape i = subst (HasOperands shape) h.is (has-operands shape word h.op) in
+    record {
+      operands = subst (λ op. HasOperands (shape_of op) i) same here;
+      vm = ap (λ (j : Instr). j.vm) (sym h.is) ∙ vm-with_operands shape word h.op;
+      nf = ap (λ (j : Instr). j.nf) (sym h.is) ∙ nf-with_operands shape word h.op;
+    }

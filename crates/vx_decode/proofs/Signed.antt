@@ -1,11 +1,11 @@
 -- Signed numbers and the numbers that they are reduced to.
-use Rattle.std.proofs.Common.{◌≡◌, ℕ, zero, suc, ◌+◌, ◌*◌, ◌-◌, ◌%◌, ◌^◌, ◌<◌, ◌≤◌, Bool, true, false, cond, ltb, ◌==◌, ap, sym, refl, ◌∙◌, arith, ℤ, pos, negsuc, neg_ℤ, ◌-ℤ◌}
+use Rattle.std.proofs.Common.{◌≡◌, ℕ, zero, suc, ◌*◌, ◌-◌, ◌%◌, ◌<◌, ◌≤◌, Bool, true, false, cond, ltb, ap, refl, arith, ℤ, pos, negsuc, neg_ℤ, ◌-ℤ◌}
 use Rattle.std.proofs.lemmas.Int.{ints}
 use Rattle.std.proofs.lemmas.Bool.Decides.{nat_tests}
 use Rattle.std.proofs.Math.Nat.{mod-eq_of_lt}
 use Rattle.std.proofs.lemmas.Nat.{mod_below}
+use borrow.Author.Tests.{ltb-true, ltb-false}
 use Rattle.std.specs.Prelude.{◌<ℤ◌, ◌≤ℤ◌, int_rem}
-use Rattle.vx_base.specs.Numbers.{reduced, signed}
 
 -- a number below `whole`, read as signed, and a signed number reduced, where `whole` is twice `half`
 abbrev signed_by : ℕ → ℕ → ℕ → ℤ
@@ -61,3 +61,26 @@ reduced-unsigned whole (negsuc n) low high = absurd (omega (arith, ints))
 pub reduced-below : (whole : ℕ) (z : ℤ) → 0 < whole → reduced_by whole z < whole
 reduced-below whole (pos n) some = mod_below n whole some
 reduced-below whole (negsuc n) some = omega arith
+
+-- what is read as signed lies in its range
+in_range-choice : (half whole : ℕ) → whole ≡ 2 * half → (n : ℕ) → n < whole → (b : Bool) → ltb n half ≡ b → (neg_ℤ (pos half) ≤ℤ cond b (pos n) (pos n -ℤ pos whole)) × (cond b (pos n) (pos n -ℤ pos whole) <ℤ pos half)
+in_range-choice half whole twice n below true e =
+    let small : n < half = ltb-true n half e in
+    (omega (arith, ints), omega (arith, ints))
+in_range-choice half whole twice n below false e =
+    let large : half ≤ n = ltb-false n half e in
+    (omega (arith, ints), omega (arith, ints))
+
+pub signed-in_range : (half whole : ℕ) → whole ≡ 2 * half → (n : ℕ) → n < whole → (neg_ℤ (pos half) ≤ℤ signed_by half whole n) × (signed_by half whole n <ℤ pos half)
+signed-in_range half whole twice n below = in_range-choice half whole twice n below (ltb n half) refl
+
+-- and an even one is even
+even-choice : (half whole : ℕ) → whole ≡ 2 * half → (n : ℕ) → n < whole → n % 2 ≡ 0 → (b : Bool) → int_rem (cond b (pos n) (pos n -ℤ pos whole)) (pos 2) ≡ pos 0
+even-choice half whole twice n below even true = ap pos even
+even-choice half whole twice n below even false =
+    let is : pos n -ℤ pos whole ≡ negsuc (whole - 1 - n) = omega (arith, ints) in
+    let even_rest : suc (whole - 1 - n) % 2 ≡ 0 = omega arith in
+    rw is (ap (λ m. neg_ℤ (pos m)) even_rest)
+
+pub signed-even : (half whole : ℕ) → whole ≡ 2 * half → (n : ℕ) → n < whole → n % 2 ≡ 0 → int_rem (signed_by half whole n) (pos 2) ≡ pos 0
+signed-even half whole twice n below even = even-choice half whole twice n below even (ltb n half)

@@ -6,33 +6,37 @@ use Rattle.vx_rows.specs.declared.row.Shape.{Shape}
 use Rattle.vx_rows.specs.declared.row.Shape.TheVariants.{Registers, Immediate, Shift, ShiftWord, Load, Store, Branch, Upper, Jump, Fence, Csr, CsrNumber, Fixed}
 use Rattle.vx_decode.specs.declared.instr.Instr.{Instr}
 
--- z is from -2 ^ (width - 1) up to 2 ^ (width - 1), and below it
+-- z is at least -2 ^ (width - 1) and below 2 ^ (width - 1)
 abbrev pub IsSigned : ℕ → ℤ → Type 0
 IsSigned width z = (neg_ℤ (pos (2 ^ (width - 1))) ≤ℤ z) × (z <ℤ pos (2 ^ (width - 1)))
 
--- z is from 0 up to 2 ^ width, and below it
+-- z is at least 0 and below 2 ^ width
 abbrev pub IsUnsigned : ℕ → ℤ → Type 0
 IsUnsigned width z = (pos 0 ≤ℤ z) × (z <ℤ pos (2 ^ width))
 
--- the registers and the immediate are below, or as, what follows
-abbrev pub Lies : Instr → (rd rs1 rs2 : ℕ) → Type 0 → Type 0
-Lies i rd rs1 rs2 Imm = (i.rd < rd) × (i.rs1 < rs1) × (i.rs2 < rs2) × Imm
+-- the registers are below these numbers; what is below 1 is 0
+abbrev pub HasRegistersBelow : (rd rs1 rs2 : ℕ) → Instr → Type 0
+HasRegistersBelow rd rs1 rs2 i = (i.rd < rd) × (i.rs1 < rs1) × (i.rs2 < rs2)
+
+-- z is a signed even number of a width
+abbrev pub IsSignedEven : ℕ → ℤ → Type 0
+IsSignedEven width z = IsSigned width z × (int_rem z (pos 2) ≡ pos 0)
 
 -- each operand lies in its range, and those that the shape lacks are 0
 abbrev pub HasOperands : Shape → Instr → Type 0
-HasOperands Registers i = Lies i 32 32 32 (i.imm ≡ pos 0)
-HasOperands Immediate i = Lies i 32 32 1 (IsSigned 12 i.imm)
-HasOperands Shift i = Lies i 32 32 1 (IsUnsigned 6 i.imm)
-HasOperands ShiftWord i = Lies i 32 32 1 (IsUnsigned 5 i.imm)
-HasOperands Load i = Lies i 32 32 1 (IsSigned 12 i.imm)
-HasOperands Store i = Lies i 1 32 32 (IsSigned 12 i.imm)
-HasOperands Branch i = Lies i 1 32 32 (IsSigned 13 i.imm × (int_rem i.imm (pos 2) ≡ pos 0))
-HasOperands Upper i = Lies i 32 1 1 (IsUnsigned 20 i.imm)
-HasOperands Jump i = Lies i 32 1 1 (IsSigned 21 i.imm × (int_rem i.imm (pos 2) ≡ pos 0))
-HasOperands Fence i = Lies i 32 32 1 (IsUnsigned 12 i.imm)
-HasOperands Csr i = Lies i 32 32 1 (IsUnsigned 12 i.imm)
-HasOperands CsrNumber i = Lies i 32 32 1 (IsUnsigned 12 i.imm)
-HasOperands Fixed i = Lies i 1 1 1 (i.imm ≡ pos 0)
+HasOperands Registers i = HasRegistersBelow 32 32 32 i × (i.imm ≡ pos 0)
+HasOperands Immediate i = HasRegistersBelow 32 32 1 i × IsSigned 12 i.imm
+HasOperands Shift i = HasRegistersBelow 32 32 1 i × IsUnsigned 6 i.imm
+HasOperands ShiftWord i = HasRegistersBelow 32 32 1 i × IsUnsigned 5 i.imm
+HasOperands Load i = HasRegistersBelow 32 32 1 i × IsSigned 12 i.imm
+HasOperands Store i = HasRegistersBelow 1 32 32 i × IsSigned 12 i.imm
+HasOperands Branch i = HasRegistersBelow 1 32 32 i × IsSignedEven 13 i.imm
+HasOperands Upper i = HasRegistersBelow 32 1 1 i × IsUnsigned 20 i.imm
+HasOperands Jump i = HasRegistersBelow 32 1 1 i × IsSignedEven 21 i.imm
+HasOperands Fence i = HasRegistersBelow 32 32 1 i × IsUnsigned 12 i.imm
+HasOperands Csr i = HasRegistersBelow 32 32 1 i × IsUnsigned 12 i.imm
+HasOperands CsrNumber i = HasRegistersBelow 32 32 1 i × IsUnsigned 12 i.imm
+HasOperands Fixed i = HasRegistersBelow 1 1 1 i × (i.imm ≡ pos 0)
 
 -- the instruction is one of its operation's row
 pub record IsValid (i : Instr) : Type 0 where

@@ -1,5 +1,6 @@
-ghost use Rattle.std.specs.Prelude.{◌≡◌};
+ghost use Rattle.std.specs.Prelude.{◌≡◌, IfSome};
 ghost use Rattle.vx_decode.specs.Decoded.{decoded, with_operands};
+ghost use Rattle.vx_decode.specs.Encoded.{IsValid};
 ghost use Rattle.vx_rows.specs.Table.{shape_of};
 
 use crate::field::bits;
@@ -8,9 +9,11 @@ use crate::instr::Instr;
 use crate::operation::operation;
 use vx_rows::{Op, Shape};
 
-/// The instruction that a word means; `None` exactly where no row has its fixed bits.
+/// The instruction that a word means; `None` exactly where no row has its fixed bits. Each of its operands lies in its
+/// range, and those that its shape lacks are 0.
 pub fn decode(word: u32) -> Option<Instr>
-    ensures { result ≡ decoded word }
+    ensures value { result ≡ decoded word }
+    ensures valid { IfSome result IsValid }
 {
     let op = operation(word)?;
     Some(operands(word, op))

@@ -28,17 +28,16 @@ fn operand_bits(shape: Shape, i: &Instr) -> u32
     let rs2 = u32::from(i.rs2) * 1_048_576;
     match shape {
         Shape::Registers => rd + rs1 + rs2,
-        Shape::Immediate => rd + rs1 + reduced_number(12, i.imm) * 1_048_576,
-        Shape::Load => rd + rs1 + reduced_number(12, i.imm) * 1_048_576,
+        Shape::Immediate | Shape::Load => rd + rs1 + reduced_number(12, i.imm) * 1_048_576,
         Shape::Shift => rd + rs1 + reduced_number(6, i.imm) * 1_048_576,
         Shape::ShiftWord => rd + rs1 + reduced_number(5, i.imm) * 1_048_576,
         Shape::Store => rs1 + rs2 + store_bits(reduced_number(12, i.imm)),
         Shape::Branch => rs1 + rs2 + branch_bits(reduced_number(13, i.imm)),
         Shape::Upper => rd + reduced_number(20, i.imm) * 4096,
         Shape::Jump => rd + jump_bits(reduced_number(21, i.imm)),
-        Shape::Fence => rd + rs1 + reduced_number(12, i.imm) * 1_048_576,
-        Shape::Csr => rd + rs1 + reduced_number(12, i.imm) * 1_048_576,
-        Shape::CsrNumber => rd + rs1 + reduced_number(12, i.imm) * 1_048_576,
+        Shape::Fence | Shape::Csr | Shape::CsrNumber => {
+            rd + rs1 + reduced_number(12, i.imm) * 1_048_576
+        }
         Shape::Fixed => 0,
     }
 }

@@ -1,6 +1,5 @@
-use vx_rows::{Op, ScalarOp};
-
 use crate::{Instr, decode, encode};
+use vx_rows::{Op, ScalarOp};
 
 /// A word with the operation, `rd`, `rs1`, `rs2` and the immediate that it means. The words are LLVM's assembler's.
 struct Known(u32, ScalarOp, u8, u8, u8, i64);

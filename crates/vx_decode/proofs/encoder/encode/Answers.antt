@@ -1,4 +1,4 @@
-use Rattle.std.proofs.Common.{◌≡◌, ◌+◌, Some, ap, sym, ◌∙◌}
+use Rattle.std.proofs.Common.{◌≡◌, ◌+◌, ap, sym, ◌∙◌}
 use Rattle.vx_rows.specs.Table.{value_of, shape_of}
 use Rattle.vx_decode.specs.Decoded.{decoded}
 use Rattle.vx_decode.specs.Encoded.{operand_bits_of}

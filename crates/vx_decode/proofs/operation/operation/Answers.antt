@@ -1,8 +1,7 @@
-use Rattle.std.proofs.Common.{◌≡◌, ℕ, ◌==◌, false, List, [], ◌∷◌, bit_and, ap, sym, refl, ◌∙◌, rules, tests, arith}
+use Rattle.std.proofs.Common.{◌≡◌, ℕ, ◌==◌, false, List, [], ◌∷◌, bit_and, refl, ◌∙◌, rules, tests}
 use Rattle.std.specs.List.{list_any}
 use Rattle.vx_rows.specs.Table.{operations}
-use Rattle.vx_decode.specs.Lookup.{operation_among}
-use Rattle.vx_decode.proofs.Rows.{operation_of-among, operation_of-at, operation_of-none, and_all}
+use Rattle.vx_decode.proofs.Rows.{operation_of-among, operation_of-at, operation_of-none}
 use Rattle.vx_decode.proofs.operation.operation.Goals as goal
 
 -- the opcodes of all rows

@@ -1,8 +1,7 @@
-use Rattle.std.proofs.Common.{◌≡◌, ℕ, ◌==◌, false, List, [], ◌∷◌, bit_and, ap, sym, refl, ◌∙◌, rules, tests, arith}
+use Rattle.std.proofs.Common.{◌≡◌, ℕ, ◌==◌, false, List, [], ◌∷◌, bit_and, refl, ◌∙◌, rules, tests}
 use Rattle.std.specs.List.{list_any}
 use Rattle.vx_rows.specs.Table.{operations}
-use Rattle.vx_decode.specs.Lookup.{operation_among}
-use Rattle.vx_decode.proofs.Rows.{operation_of-among, operation_of-at, operation_of-none_among, and_all}
+use Rattle.vx_decode.proofs.Rows.{operation_of-among, operation_of-at, operation_of-none_among}
 use Rattle.vx_decode.proofs.operation.with_number_word.Goals as goal
 
 -- the fixed bits of these rows, up to the third function field
