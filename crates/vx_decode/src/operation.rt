@@ -31,7 +31,7 @@ fn jump_register(fixed: u32) -> Option<Op>
     ensures { result ≡ operation_among 0x7f 0x67 fixed }
 {
     let op = match fixed {
-        0x67 => ScalarOp::Jalr,
+        0x0067 => ScalarOp::Jalr,
         _ => return None,
     };
     Some(Op::Scalar(op))
@@ -43,7 +43,7 @@ fn branch(fixed: u32) -> Option<Op>
     ensures { result ≡ operation_among 0x7f 0x63 fixed }
 {
     let op = match fixed {
-        0x63 => ScalarOp::Beq,
+        0x0063 => ScalarOp::Beq,
         0x1063 => ScalarOp::Bne,
         0x4063 => ScalarOp::Blt,
         0x5063 => ScalarOp::Bge,
@@ -57,10 +57,10 @@ fn branch(fixed: u32) -> Option<Op>
 /// The loads.
 #[tactic(auto, unfolding(vx_rows::specs::Table::operations))]
 fn load(fixed: u32) -> Option<Op>
-    ensures { result ≡ operation_among 0x7f 0x3 fixed }
+    ensures { result ≡ operation_among 0x7f 0x03 fixed }
 {
     let op = match fixed {
-        0x3 => ScalarOp::Lb,
+        0x0003 => ScalarOp::Lb,
         0x1003 => ScalarOp::Lh,
         0x2003 => ScalarOp::Lw,
         0x3003 => ScalarOp::Ld,
@@ -78,7 +78,7 @@ fn store(fixed: u32) -> Option<Op>
     ensures { result ≡ operation_among 0x7f 0x23 fixed }
 {
     let op = match fixed {
-        0x23 => ScalarOp::Sb,
+        0x0023 => ScalarOp::Sb,
         0x1023 => ScalarOp::Sh,
         0x2023 => ScalarOp::Sw,
         0x3023 => ScalarOp::Sd,
@@ -93,7 +93,7 @@ fn with_number(word: u32) -> Option<Op>
     ensures { result ≡ operation_of word }
 {
     let op = match word & 0x707f {
-        0x13 => ScalarOp::Addi,
+        0x0013 => ScalarOp::Addi,
         0x2013 => ScalarOp::Slti,
         0x3013 => ScalarOp::Sltiu,
         0x4013 => ScalarOp::Xori,
@@ -137,7 +137,7 @@ fn with_number_word(word: u32) -> Option<Op>
     ensures { result ≡ operation_of word }
 {
     let op = match word & 0x707f {
-        0x1b => ScalarOp::Addiw,
+        0x001b => ScalarOp::Addiw,
         0x101b => return shift_left_word(word & 0xfe00_707f),
         0x501b => return shift_right_word(word & 0xfe00_707f),
         _ => return None,
@@ -176,7 +176,7 @@ fn with_registers(fixed: u32) -> Option<Op>
     ensures { result ≡ operation_among 0x7f 0x33 fixed }
 {
     let op = match fixed {
-        0x33 => ScalarOp::Add,
+        0x0033 => ScalarOp::Add,
         0x4000_0033 => ScalarOp::Sub,
         0x1033 => ScalarOp::Sll,
         0x2033 => ScalarOp::Slt,
@@ -205,7 +205,7 @@ fn with_registers_word(fixed: u32) -> Option<Op>
     ensures { result ≡ operation_among 0x7f 0x3b fixed }
 {
     let op = match fixed {
-        0x3b => ScalarOp::Addw,
+        0x003b => ScalarOp::Addw,
         0x4000_003b => ScalarOp::Subw,
         0x103b => ScalarOp::Sllw,
         0x503b => ScalarOp::Srlw,
@@ -223,10 +223,10 @@ fn with_registers_word(fixed: u32) -> Option<Op>
 /// The fence.
 #[tactic(auto, unfolding(vx_rows::specs::Table::operations))]
 fn fence(fixed: u32) -> Option<Op>
-    ensures { result ≡ operation_among 0x7f 0xf fixed }
+    ensures { result ≡ operation_among 0x7f 0x0f fixed }
 {
     let op = match fixed {
-        0xf => ScalarOp::Fence,
+        0x000f => ScalarOp::Fence,
         _ => return None,
     };
     Some(Op::Scalar(op))
@@ -238,7 +238,7 @@ fn system(word: u32) -> Option<Op>
     ensures { result ≡ operation_of word }
 {
     let op = match word & 0x707f {
-        0x73 => return environment(word),
+        0x0073 => return environment(word),
         0x1073 => ScalarOp::Csrrw,
         0x2073 => ScalarOp::Csrrs,
         0x3073 => ScalarOp::Csrrc,
@@ -256,7 +256,7 @@ fn environment(fixed: u32) -> Option<Op>
     ensures { result ≡ operation_among 0x707f 0x73 fixed }
 {
     let op = match fixed {
-        0x73 => ScalarOp::Ecall,
+        0x0073 => ScalarOp::Ecall,
         0x0010_0073 => ScalarOp::Ebreak,
         _ => return None,
     };
