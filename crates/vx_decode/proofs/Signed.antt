@@ -9,7 +9,7 @@ use Rattle.std.specs.Prelude.{◌<ℤ◌, ◌≤ℤ◌, int_rem}
 
 -- a number below `whole`, read as signed, and a signed number reduced, where `whole` is twice `half`
 abbrev signed_by : ℕ → ℕ → ℕ → ℤ
-signed_by half whole n = cond (ltb n half) (pos n) (pos n -ℤ pos whole)
+signed_by half whole n = cond (ltb n half) (pos n) (negsuc (whole - 1 - n))
 
 abbrev reduced_by : ℕ → ℤ → ℕ
 reduced_by whole (pos n) = n % whole
@@ -24,15 +24,14 @@ signed-reduced half whole twice (negsuc n) low high =
     let below : n < half = omega (arith, ints) in
     let same : n % whole ≡ n = mod-eq_of_lt (omega arith) in
     let not_low : ltb (whole - 1 - n) half ≡ false = grind (arith, nat_tests) in
-    let back : pos (whole - 1 - n) -ℤ pos whole ≡ negsuc n = omega (arith, ints) in
+    let back : negsuc (whole - 1 - (whole - 1 - n)) ≡ negsuc n = omega (arith, ints) in
     rw (same, not_low) back
 
-reduced-choice : (whole n : ℕ) (b : Bool) → n < whole → reduced_by whole (cond b (pos n) (pos n -ℤ pos whole)) ≡ n
+reduced-choice : (whole n : ℕ) (b : Bool) → n < whole → reduced_by whole (cond b (pos n) (negsuc (whole - 1 - n))) ≡ n
 reduced-choice whole n true below = mod-eq_of_lt below
 reduced-choice whole n false below =
-    let is : pos n -ℤ pos whole ≡ negsuc (whole - 1 - n) = omega (arith, ints) in
     let same : (whole - 1 - n) % whole ≡ whole - 1 - n = mod-eq_of_lt (omega arith) in
-    rw (is, same) (omega arith)
+    rw same (omega arith)
 
 pub reduced-signed : (half whole n : ℕ) → n < whole → reduced_by whole (signed_by half whole n) ≡ n
 reduced-signed half whole n below = reduced-choice whole n (ltb n half) below
@@ -63,7 +62,7 @@ reduced-below whole (pos n) some = mod_below n whole some
 reduced-below whole (negsuc n) some = omega arith
 
 -- what is read as signed lies in its range
-in_range-choice : (half whole : ℕ) → whole ≡ 2 * half → (n : ℕ) → n < whole → (b : Bool) → ltb n half ≡ b → (neg_ℤ (pos half) ≤ℤ cond b (pos n) (pos n -ℤ pos whole)) × (cond b (pos n) (pos n -ℤ pos whole) <ℤ pos half)
+in_range-choice : (half whole : ℕ) → whole ≡ 2 * half → (n : ℕ) → n < whole → (b : Bool) → ltb n half ≡ b → (neg_ℤ (pos half) ≤ℤ cond b (pos n) (negsuc (whole - 1 - n))) × (cond b (pos n) (negsuc (whole - 1 - n)) <ℤ pos half)
 in_range-choice half whole twice n below true e =
     let small : n < half = ltb-true n half e in
     (omega (arith, ints), omega (arith, ints))
@@ -75,12 +74,11 @@ pub signed-in_range : (half whole : ℕ) → whole ≡ 2 * half → (n : ℕ) �
 signed-in_range half whole twice n below = in_range-choice half whole twice n below (ltb n half) refl
 
 -- and an even one is even
-even-choice : (half whole : ℕ) → whole ≡ 2 * half → (n : ℕ) → n < whole → n % 2 ≡ 0 → (b : Bool) → int_rem (cond b (pos n) (pos n -ℤ pos whole)) (pos 2) ≡ pos 0
+even-choice : (half whole : ℕ) → whole ≡ 2 * half → (n : ℕ) → n < whole → n % 2 ≡ 0 → (b : Bool) → int_rem (cond b (pos n) (negsuc (whole - 1 - n))) (pos 2) ≡ pos 0
 even-choice half whole twice n below even true = ap pos even
 even-choice half whole twice n below even false =
-    let is : pos n -ℤ pos whole ≡ negsuc (whole - 1 - n) = omega (arith, ints) in
     let even_rest : suc (whole - 1 - n) % 2 ≡ 0 = omega arith in
-    rw is (ap (λ m. neg_ℤ (pos m)) even_rest)
+    ap (λ m. neg_ℤ (pos m)) even_rest
 
 pub signed-even : (half whole : ℕ) → whole ≡ 2 * half → (n : ℕ) → n < whole → n % 2 ≡ 0 → int_rem (signed_by half whole n) (pos 2) ≡ pos 0
 signed-even half whole twice n below even = even-choice half whole twice n below even (ltb n half)
