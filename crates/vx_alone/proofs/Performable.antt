@@ -47,7 +47,7 @@ IsPerformable-executed false word i p = tt
 
 IsPerformable-row : (word : ℕ) (row : Option Row) → IsPerformable (meaning word (option_map (λ (r : Row). with_operands word r.op r.shape) row))
 IsPerformable-row word None = tt
-IsPerformable-row word (Some r) = IsPerformable-executed (is_executed r.op) word (with_operands word r.op r.shape) (NamesRegisters-with_operands word r.op r.shape)
+IsPerformable-row word (Some r) = IsPerformable-executed (is_executed (with_operands word r.op r.shape).op) word (with_operands word r.op r.shape) (NamesRegisters-with_operands word r.op r.shape)
 
 IsPerformable-if : (b : Bool) (u : Upcoming) → IsPerformable u → IsPerformable (if b then u else Denied)
 IsPerformable-if true u p = p
