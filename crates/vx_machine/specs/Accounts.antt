@@ -29,11 +29,11 @@ standing_of pc None = Stopped pc 0
 -- what is told of a process that took so many cycles
 abbrev pub account_of : Process → ℕ → Account
 account_of p cycles = record {
-    standing = standing_of p.state.pc p.over;
-    instructions = p.count;
-    cycles = cycles;
-    misses = 0;
-    output = p.state.output;
+  standing = standing_of p.state.pc p.over;
+  instructions = p.count;
+  cycles = cycles;
+  misses = 0;
+  output = p.state.output;
 }
 
 -- alone, the image exits so after n instructions and has written this
