@@ -9,6 +9,7 @@ use Rattle.vx_machine.specs.declared.stop.Stop.{Stop}
 use Rattle.vx_machine.specs.declared.stop.Stop.TheVariants.{Done, Spent}
 use Rattle.vx_times.specs.Episode.{EpisodeEnd, episode}
 use Rattle.vx_times.specs.History.{Organisation}
+use Rattle.vx_times.specs.declared.pause.Pause.{Pause}
 use Rattle.vx_times.specs.declared.pause.Pause.TheVariants.{Slice, Service, Over}
 
 -- the machine that a run is told for, the cycles of a turn, and the cycles after which the run ends
@@ -78,11 +79,15 @@ passed m process cycles = record m { process = process; cycles = m.cycles + cycl
 abbrev pub served : Machine → Machine
 served m = passed m (stepped m.process) (words_moved m.process.state + service_cycles)
 
--- an episode is over: a turn ends with its slice, and a service follows
+-- the machine once an episode ended so: the turn ends with its slice, and a service follows
+abbrev pub after_pause : Machine → Pause → Machine
+after_pause m Slice = record m { turn_end = None }
+after_pause m Service = served m
+after_pause m Over = m
+
+-- an episode is over
 abbrev pub after_episode : Machine → EpisodeEnd → Machine
-after_episode m e =
-    let n = passed m e.process (e.clock - m.clock) in
-    elim (e.pause) [ Slice ↦ record n { turn_end = None } | Service ↦ served n | Over ↦ n ]
+after_episode m e = after_pause (passed m e.process (e.clock - m.clock)) e.pause
 
 -- a round
 abbrev pub round : Settings → Machine → Machine

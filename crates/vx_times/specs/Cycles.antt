@@ -1,7 +1,8 @@
 -- The timing equations: each quantity of an instruction, over what the earlier instructions of its episode did. This
 -- project's own. Every look-up hits and every page is present, so no walk stands between a look-up and its end.
-use Rattle.std.specs.Prelude.{ℕ, ◌+◌, true, false, ◌==◌, nat_le, List, [], ◌∷◌, ◌++◌, map, filter, Some, None, if◌then◌else◌}
+use Rattle.std.specs.Prelude.{ℕ, ◌+◌, true, false, ◌==◌, nat_le, nat_lt, List, [], ◌∷◌, ◌++◌, map, filter, if◌then◌else◌}
 use Rattle.std.specs.List.{list_any, list_all}
+use Rattle.std.specs.Option.{option_map_or}
 use Rattle.vx_times.specs.Footprint.{Access, Footprint}
 use Rattle.vx_times.specs.History.{Organisation, History, BatchTimes, AccessTimes, greatest, last_issue, last_retire, cycle_after, retire_before, register_ready, batches_of, accesses_of, last_look_up, last_but_one_commit, word_of, bank_of, last_serve, done_cycles, look_up_ends}
 
@@ -42,7 +43,7 @@ queue_cycle started lower access =
 -- serve: behind the queue, and the bank time behind the serve before it on its bank
 abbrev pub serve_cycle : Organisation → (queued : ℕ) → List AccessTimes → Access → ℕ
 serve_cycle machine queued earlier access =
-    greatest ((queued + 1) ∷ (elim (last_serve machine earlier (bank_of machine access)) [ None ↦ 0 | Some served ↦ served + machine.bank_time ]) ∷ [])
+    greatest ((queued + 1) ∷ option_map_or (λ (served : ℕ). served + machine.bank_time) (last_serve machine earlier (bank_of machine access)) 0 ∷ [])
 
 -- done: the bank time behind the serve
 abbrev pub done_cycle : Organisation → (served : ℕ) → ℕ
@@ -104,12 +105,23 @@ complete_cycle issued f batches = greatest ((issued + f.latency) ∷ generation_
 abbrev pub retire_cycle : ℕ → History → (completed : ℕ) → ℕ
 retire_cycle start history completed = greatest ((last_retire start history + 1) ∷ (completed + 1) ∷ [])
 
--- the stop at a batch in which an access fails: behind its look-ups, the retire before, and the accesses that are done
-abbrev pub batch_stop_cycle : ℕ → History → List BatchTimes → ℕ
-batch_stop_cycle start history batches = greatest (
+-- the batches of an instruction that retires at a cycle: the last commits with it
+abbrev pub retired_batches : (retired : ℕ) → List BatchTimes → List BatchTimes
+retired_batches retired [] = []
+retired_batches retired (last ∷ batches) = record last { committed = retired } ∷ batches
+
+-- the element of the first access that fails
+abbrev pub failing_element : List Access → ℕ
+failing_element [] = 0
+failing_element (access ∷ accesses) = if access.is_good then failing_element accesses else access.element
+
+-- the stop at a batch in which an access fails: behind its look-ups, the retire before, and the instruction's accesses for
+-- the elements below that access's
+abbrev pub batch_stop_cycle : ℕ → History → (failing : ℕ) → List BatchTimes → ℕ
+batch_stop_cycle start history failing batches = greatest (
     (last_retire start history + 1)
     ∷ (elim batches [ [] ↦ 0 | last ∷ others ↦ last.looked_up ])
-    ∷ done_cycles (accesses_of batches))
+    ∷ done_cycles (filter (λ (a : AccessTimes). nat_lt a.access.element failing) (accesses_of batches)))
 
 -- the cycles from the end of an episode to the system
 abbrev pub trap_cycles : ℕ

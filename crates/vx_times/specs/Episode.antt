@@ -1,9 +1,9 @@
 -- An episode: the instructions of a process from a cycle on, up to a stop or to the first retire at or after `until`. This
 -- project's own.
-use Rattle.std.specs.Prelude.{ℕ, zero, suc, ◌-◌, Bool, true, false, not, nat_le, List, [], ◌∷◌, ◌++◌, Some, None}
+use Rattle.std.specs.Prelude.{ℕ, zero, suc, ◌-◌, Bool, true, false, not, nat_le, List, [], ◌∷◌, ◌++◌, flat_map, Some, None}
 use Rattle.std.specs.List.{list_all}
 use Rattle.vx_flat.specs.Process.{Process, stepped}
-use Rattle.vx_times.specs.Cycles.{issue_cycle, all_batches, complete_cycle, retire_cycle, batch_stop_cycle, end_cycle}
+use Rattle.vx_times.specs.Cycles.{issue_cycle, all_batches, complete_cycle, retire_cycle, retired_batches, failing_element, batch_stop_cycle, end_cycle}
 use Rattle.vx_times.specs.Footprint.{Access, Footprint, SerialStop, footprint}
 use Rattle.vx_times.specs.Footprint.SerialStop.{Serves, Faults}
 use Rattle.vx_times.specs.History.{Organisation, History, Entry, BatchTimes, batches_of}
@@ -28,9 +28,16 @@ abbrev pub accessing : Organisation → ℕ → History → (issued : ℕ) → F
 accessing machine start history issued f =
     let batches = all_batches machine start history issued [] f.batches in
     let completed = complete_cycle issued f batches in
+    let retired = retire_cycle start history completed in
     elim (has_failing f.batches) [
-      true ↦ Stops Over (batch_stop_cycle start history batches) batches
-    | false ↦ Retires (record { footprint = f; issued = issued; completed = completed; retired = retire_cycle start history completed; batches = batches }) ]
+      true ↦ Stops Over (batch_stop_cycle start history (failing_element (flat_map (λ (b : List Access). b) f.batches)) batches) batches
+    | false ↦ Retires (record {
+        footprint = f;
+        issued = issued;
+        completed = completed;
+        retired = retired;
+        batches = retired_batches retired batches;
+      }) ]
 
 abbrev pub event : Organisation → ℕ → History → Footprint → Event
 event machine start history f =
