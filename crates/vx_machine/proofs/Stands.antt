@@ -9,7 +9,8 @@ use Rattle.vx_flat.specs.Step.{Outcome, step}
 use Rattle.vx_flat.specs.Step.Outcome.{Next, Exited, Faulted}
 use Rattle.vx_flat.specs.declared.end.End.{End}
 use Rattle.vx_flat.specs.declared.end.End.TheVariants as end
-use Rattle.vx_machine.specs.Accounts.{account_of, IsTrueOf, GoesOnAlone}
+use Rattle.vx_machine.specs.Accounts.{account_of, standing_of, IsTrueOf, StandsAlone}
+use Rattle.vx_machine.specs.Machine.{Machine}
 
 -- a process with these parts
 abbrev process : Flat → ℕ → Option End → Process
@@ -56,14 +57,16 @@ IsStanding-machine image (suc n) small =
 abbrev pub Grows : Type 0
 Grows = (image : Image) (n m : ℕ) (early late : Flat) → n ≤ m → flat image n ≡ Some early → flat image m ≡ Some late → IsPrefixOf early.output late.output
 
-IsTrueOf-standing : Grows → (image : Image) (n count cycles : ℕ) (s : Flat) (over : Option End) → Stands image n s count over → IsTrueOf image (account_of (process s count over) cycles)
-IsTrueOf-standing grows image n count cycles s None h =
+IsTrueOf-standing : Grows → (image : Image) (n : ℕ) (m : Machine) (over : Option End) → Stands image n m.process.state m.process.count over → StandsAlone image m.process.count m.process.state.output (standing_of m.process.state.pc over)
+IsTrueOf-standing grows image n m None h =
+    let count = m.process.count in
+    let s = m.process.state in
     let at : flat image count ≡ Some s = subst (λ (k : ℕ). flat image k ≡ Some s) (sym h.0) h.1 in
-    record { now = s; reached = at; at = refl; element = refl; wrote = refl; prefix = λ m late later is. grows image count m s late later at is }
-IsTrueOf-standing grows image n count cycles s (Some (end.Exited code)) h = record { last = s; exits = h; wrote = refl }
-IsTrueOf-standing grows image n count cycles s (Some (end.Faulted fault)) h = record { last = s; faults = h; at = refl; wrote = refl }
+    record { now = s; reached = at; at = refl; element = refl; wrote = refl; prefix = λ l late later is. grows image count l s late later at is }
+IsTrueOf-standing grows image n m (Some (end.Exited code)) h = record { last = m.process.state; exits = h; wrote = refl }
+IsTrueOf-standing grows image n m (Some (end.Faulted fault)) h = record { last = m.process.state; faults = h; at = refl; wrote = refl }
 
-pub IsTrueOf-machine : Grows → (image : Image) (steps cycles : ℕ) → steps < 2 ^ 64 - 1 → IsTrueOf image (account_of (stepped_on steps (begun image)) cycles)
-IsTrueOf-machine grows image steps cycles small =
-    let p = stepped_on steps (begun image) in
-    IsTrueOf-standing grows image steps p.count cycles p.state p.over (IsStanding-machine image steps small)
+pub IsTrueOf-machine : Grows → (image : Image) (steps : ℕ) (m : Machine) → steps < 2 ^ 64 - 1 → m.process ≡ stepped_on steps (begun image) → IsTrueOf image (account_of m)
+IsTrueOf-machine grows image steps m small is =
+    let standing = subst (IsStanding image steps) (sym is) (IsStanding-machine image steps small) in
+    IsTrueOf-standing grows image steps m m.process.over standing

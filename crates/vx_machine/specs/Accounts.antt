@@ -2,10 +2,10 @@
 use Rattle.std.specs.Prelude.{◌≡◌, ℕ, ◌≤◌, ℤ, List, Option, Some, None}
 use Rattle.vx_base.specs.declared.machine.Fault.{Fault}
 use Rattle.vx_flat.specs.Image.{Image}
-use Rattle.vx_flat.specs.Process.{Process}
 use Rattle.vx_flat.specs.Run.{flat, Exits, Faults, IsPrefixOf}
 use Rattle.vx_flat.specs.State.{Flat}
 use Rattle.vx_flat.specs.declared.end.End.{End}
+use Rattle.vx_machine.specs.Machine.{Machine}
 use Rattle.vx_flat.specs.declared.end.End.TheVariants as end
 
 -- how a process stands
@@ -26,14 +26,14 @@ standing_of pc (Some (end.Exited code)) = Exited code
 standing_of pc (Some (end.Faulted fault)) = Faulted fault pc
 standing_of pc None = Stopped pc 0
 
--- what is told of a process that took so many cycles
-abbrev pub account_of : Process → ℕ → Account
-account_of p cycles = record {
-  standing = standing_of p.state.pc p.over;
-  instructions = p.count;
-  cycles = cycles;
+-- what is told of the machine's process
+abbrev pub account_of : Machine → Account
+account_of m = record {
+  standing = standing_of m.process.state.pc m.process.over;
+  instructions = m.process.count;
+  cycles = m.cycles;
   misses = 0;
-  output = p.state.output;
+  output = m.process.state.output;
 }
 
 -- alone, the image exits so after n instructions and has written this

@@ -6,7 +6,7 @@ use Rattle.vx_flat.specs.Image.{Image, raw_image, raw_fault}
 use Rattle.vx_flat.specs.declared.fault.ImageFault.{ImageFault}
 use Rattle.vx_flat.specs.declared.fault.ImageFault.TheVariants as fault
 use Rattle.vx_machine.specs.Accounts.{account_of, IsTrueOf}
-use Rattle.vx_machine.specs.Machine.{machine, StopsWith}
+use Rattle.vx_machine.specs.Machine.{Settings, first_settings, machine, stop_of}
 use Rattle.vx_machine.specs.Report.{report}
 use Rattle.vx_machine.specs.declared.stop.Stop.{Stop}
 use Rattle.vx_machine.specs.declared.stop.Stop.TheVariants as stop
@@ -23,15 +23,13 @@ pub record Devices : Type 0 where
   pub out : SinkState
   pub note : SinkState
 
--- the headline: a run of the image stops so, with this report, and what the report tells is so of the image alone
-pub record Headline (image : Image) (stop : Stop) (text : List ℕ) : Type 0 where
-  -- the machine's steps; its process's cycles and its clock, of which nothing more is claimed yet
-  pub steps : ℕ
-  pub cycles : ℕ
-  pub total : ℕ
-  pub stops : StopsWith (machine image steps) stop
-  pub tells : text ≡ report (account_of (machine image steps) cycles ∷ []) total stop
-  pub values : IsTrueOf image (account_of (machine image steps) cycles)
+-- the headline: after some number of rounds the machine stops so, the report tells its state, and what it tells is so of the
+-- image alone
+pub record Headline (settings : Settings) (image : Image) (stop : Stop) (text : List ℕ) : Type 0 where
+  pub actions : ℕ
+  pub stops : stop_of settings (machine settings image actions) ≡ Some stop
+  pub tells : text ≡ report (account_of (machine settings image actions) ∷ []) (machine settings image actions).clock stop
+  pub values : IsTrueOf image (account_of (machine settings image actions))
 
 -- the note grew by this line, or by a prefix of it where its count of faults rose
 abbrev pub IsNoted : Devices → Devices → List ℕ → Type 0
@@ -79,7 +77,7 @@ pub record HasRun (words : List (List ℕ)) (before after : Devices) (stop : Sto
   pub bytes : List ℕ
   pub read : Reads before.shelf after.shelf name file_limit bytes
   pub is_image : raw_fault bytes ≡ None
-  pub headline : Headline (raw_image bytes) stop text
+  pub headline : Headline first_settings (raw_image bytes) stop text
 
 -- the report was written whole
 pub record HasReported (words : List (List ℕ)) (before after : Devices) (stop : Stop) : Type 0 where

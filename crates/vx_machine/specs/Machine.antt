@@ -1,15 +1,109 @@
--- The machine with one process. This project's own.
-use Rattle.std.specs.Prelude.{ℕ, IsSome, IsNone}
+-- The machine with one process, by its rounds: a boundary, an episode of the process, and the service that ends it. This
+-- project's own.
+use Rattle.std.specs.Prelude.{ℕ, zero, suc, ◌+◌, ◌-◌, ◌/◌, Bool, false, true, ◌==◌, nat_le, length, Option, Some, None, if◌then◌else◌, unwrap_or}
 use Rattle.vx_flat.specs.Image.{Image}
-use Rattle.vx_flat.specs.Process.{Process, begun, stepped_on}
+use Rattle.vx_flat.specs.Process.{Process, begun, stepped}
+use Rattle.vx_flat.specs.Service.{service}
+use Rattle.vx_flat.specs.State.{Flat, register}
 use Rattle.vx_machine.specs.declared.stop.Stop.{Stop}
 use Rattle.vx_machine.specs.declared.stop.Stop.TheVariants.{Done, Spent}
+use Rattle.vx_times.specs.Episode.{EpisodeEnd, episode}
+use Rattle.vx_times.specs.History.{Organisation}
+use Rattle.vx_times.specs.declared.pause.Pause.{Pause}
+use Rattle.vx_times.specs.declared.pause.Pause.TheVariants.{Slice, Service, Over}
 
--- the machine's process after so many steps from boot
-abbrev pub machine : Image → ℕ → Process
-machine image steps = stepped_on steps (begun image)
+-- the machine that a run is told for, the cycles of a turn, and the cycles after which the run ends
+pub record Settings : Type 0 where
+  pub organisation : Organisation
+  pub slice : ℕ
+  pub budget : ℕ
 
--- a run may stop so: Done where the process has ended, Spent where it hasn't
-abbrev pub StopsWith : Process → Stop → Type 0
-StopsWith p Done = IsSome p.over
-StopsWith p Spent = IsNone p.over
+-- the settings of a run whose words name no others
+abbrev pub first_settings : Settings
+first_settings = record {
+  organisation = record { lanes = 1; banks = 8; bank_time = 4; window = 1 };
+  slice = 10000;
+  budget = 1000000000;
+}
+
+-- the cycles for taking another process than the one that ran last, and those of a service beside its words
+abbrev pub switch_cycles : ℕ
+switch_cycles = 100
+
+abbrev pub service_cycles : ℕ
+service_cycles = 50
+
+pub record Machine : Type 0 where
+  pub process : Process
+  -- the cycles that the process took
+  pub cycles : ℕ
+  pub clock : ℕ
+  -- the cycle at which the process's turn ends, while it has one
+  pub turn_end : Option ℕ
+  -- the process has had a turn
+  pub has_run : Bool
+
+-- the machine at boot
+abbrev pub booted_machine : Image → Machine
+booted_machine image = record { process = begun image; cycles = 0; clock = 0; turn_end = None; has_run = false }
+
+-- how the run stops at a boundary: with the process ended, or else with the clock at the budget
+abbrev pub stop_of : Settings → Machine → Option Stop
+stop_of settings m = elim (m.process.over) [
+    Some end ↦ Some Done
+  | None ↦ if nat_le settings.budget m.clock then Some Spent else None ]
+
+-- the process is given a turn from a cycle on
+abbrev pub given_turn : Settings → Machine → ℕ → Machine
+given_turn settings m clock = record m { clock = clock; turn_end = Some (clock + settings.slice); has_run = true }
+
+-- the process goes on in its turn, or is given one; the first costs a switch
+abbrev pub taken : Settings → Machine → Machine
+taken settings m = elim (m.turn_end) [
+    Some end ↦ m
+  | None ↦ given_turn settings m (m.clock + (if m.has_run then 0 else switch_cycles)) ]
+
+-- how many aligned words of 8 bytes hold so many bytes from an address on
+abbrev pub words_held : (address count : ℕ) → ℕ
+words_held address count = if count == 0 then 0 else (address + count - 1) / 8 - address / 8 + 1
+
+-- how many words the service that a state asks for moves
+abbrev pub words_moved : Flat → ℕ
+words_moved s = words_held (register s 11) (length (service s (register s 17)).written)
+
+-- the process took some cycles
+abbrev pub passed : Machine → Process → (cycles : ℕ) → Machine
+passed m process cycles = record m { process = process; cycles = m.cycles + cycles; clock = m.clock + cycles }
+
+-- the service is done
+abbrev pub served : Machine → Machine
+served m = passed m (stepped m.process) (words_moved m.process.state + service_cycles)
+
+-- the machine once an episode ended so: the turn ends with its slice, and a service follows
+abbrev pub after_pause : Machine → Pause → Machine
+after_pause m Slice = record m { turn_end = None }
+after_pause m Service = served m
+after_pause m Over = m
+
+-- an episode is over
+abbrev pub after_episode : Machine → EpisodeEnd → Machine
+after_episode m e = after_pause (passed m e.process (e.clock - m.clock)) e.pause
+
+-- a round
+abbrev pub round : Settings → Machine → Machine
+round settings m =
+    let t = taken settings m in
+    after_episode t (episode settings.organisation t.clock (unwrap_or t.turn_end 0) t.process)
+
+-- the next round, where the run hasn't stopped
+abbrev pub next_round : Settings → Machine → Machine
+next_round settings m = elim (stop_of settings m) [ None ↦ round settings m | Some stop ↦ m ]
+
+-- so many rounds
+unfoldable pub rounds : Settings → ℕ → Machine → Machine
+rounds settings zero m = m
+rounds settings (suc n) m = next_round settings (rounds settings n m)
+
+-- the machine after so many rounds from boot
+abbrev pub machine : Settings → Image → ℕ → Machine
+machine settings image n = rounds settings n (booted_machine image)

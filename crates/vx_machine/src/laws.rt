@@ -1,13 +1,14 @@
-ghost use Rattle.std.specs.Prelude.{ℕ, ◌<◌, ◌-◌, ◌^◌};
+ghost use Rattle.std.specs.Prelude.{◌≡◌, ℕ, ◌<◌, ◌-◌, ◌^◌};
 ghost use Rattle.vx_flat.specs.Image.{Image};
+ghost use Rattle.vx_flat.specs.Process.{begun, stepped_on};
 ghost use Rattle.vx_machine.specs.Accounts.{account_of, IsTrueOf};
-ghost use Rattle.vx_machine.specs.Machine.{machine};
+ghost use Rattle.vx_machine.specs.Machine.{Machine};
 
 use vx_flat::output_only_grows;
 
-/// What an account tells of a process after so many steps is so of its image alone.
+/// What an account tells of a machine whose process has taken so many steps from boot is so of its image alone.
 pub fn accounts_are_true()
-    ensures { (image : Image) (steps cycles : ℕ) → steps < 2 ^ 64 - 1 → IsTrueOf image (account_of (machine image steps) cycles) }
+    ensures { (image : Image) (steps : ℕ) (m : Machine) → steps < 2 ^ 64 - 1 → m.process ≡ stepped_on steps (begun image) → IsTrueOf image (account_of m) }
 {
     output_only_grows();
 }

@@ -1,35 +1,42 @@
 -- What a system is seen as, and what its boot and its run do. This project's own.
-use Rattle.std.specs.Prelude.{◌≡◌, ℕ, ◌+◌, ◌≤◌, ◌<◌, ◌^◌, List, Some, None, Result, Ok, Err}
+use Rattle.std.specs.Prelude.{◌≡◌, ℕ, ◌+◌, ◌≤◌, ◌<◌, ◌^◌, Bool, true, false, List, Some, None, Result, Ok, Err}
+use Rattle.vx_base.specs.declared.options.Options.{Options}
 use Rattle.vx_flat.specs.Image.{raw_image, raw_fault}
-use Rattle.vx_flat.specs.Process.{Process, begun, stepped_on}
+use Rattle.vx_flat.specs.Process.{Process, stepped_on}
+use Rattle.vx_flat.specs.Step.{upcoming}
 use Rattle.vx_flat.specs.declared.fault.ImageFault.{ImageFault}
 use Rattle.vx_flat.specs.declared.fault.ImageFault.TheVariants.{RawLength, TooManyPages, NoMemory}
-use Rattle.vx_machine.specs.Machine.{StopsWith}
+use Rattle.vx_flat.specs.declared.upcoming.Upcoming.{Upcoming}
+use Rattle.vx_flat.specs.declared.upcoming.Upcoming.TheVariants.{Denied, Illegal, Instruction}
+use Rattle.vx_machine.specs.Machine.{Machine, Settings, booted_machine, rounds, stop_of}
 use Rattle.vx_machine.specs.declared.stop.Stop.{Stop}
+use Rattle.vx_rows.specs.Table.{class_of}
+use Rattle.vx_rows.specs.declared.row.Class.{Class}
+use Rattle.vx_rows.specs.declared.row.Class.TheVariants as class
 
--- the system of one process: the process, the cycles that it took, and the clock
+-- the system of one process: the settings, and the machine as it is now
 pub record SystemState : Type 0 where
-  pub process : Process
-  pub cycles : ℕ
-  pub clock : ℕ
-  pub budget : ℕ
+  pub settings : Settings
+  pub machine : Machine
 
--- the system of an image before it runs
-abbrev pub starting : ℕ → Process → SystemState
-starting budget process = record { process = process; cycles = 0; clock = 0; budget = budget }
+-- the settings that the options of a run name
+abbrev pub settings_of : Options → Settings
+settings_of options = record {
+  organisation = record { lanes = options.lanes; banks = options.banks; bank_time = options.bank_time; window = options.window };
+  slice = options.slice;
+  budget = options.budget;
+}
 
--- the clock alone has changed
-pub record SameButClock (before after : SystemState) : Type 0 where
-  pub process : after.process ≡ before.process
-  pub cycles : after.cycles ≡ before.cycles
-  pub budget : after.budget ≡ before.budget
+-- the machine alone has changed, to this one
+abbrev pub with_machine : SystemState → Machine → SystemState
+with_machine s m = record { settings = s.settings; machine = m }
 
 -- what the boot of raw bytes answers: the system of the image, or the bytes' fault
-abbrev pub Boots : List ℕ → ℕ → Result SystemState ImageFault → Type 0
-Boots bytes budget (Ok s) = (raw_fault bytes ≡ None) × (s ≡ starting budget (begun (raw_image bytes)))
-Boots bytes budget (Err NoMemory) = Unit {0}
-Boots bytes budget (Err (RawLength n)) = raw_fault bytes ≡ Some (RawLength n)
-Boots bytes budget (Err (TooManyPages n)) = raw_fault bytes ≡ Some (TooManyPages n)
+abbrev pub Boots : List ℕ → Settings → Result SystemState ImageFault → Type 0
+Boots bytes settings (Ok s) = (raw_fault bytes ≡ None) × (s ≡ record { settings = settings; machine = booted_machine (raw_image bytes) })
+Boots bytes settings (Err NoMemory) = Unit {0}
+Boots bytes settings (Err (RawLength n)) = raw_fault bytes ≡ Some (RawLength n)
+Boots bytes settings (Err (TooManyPages n)) = raw_fault bytes ≡ Some (TooManyPages n)
 
 -- the process took steps, no more of them than the cycles from one to the other
 pub record StepsTo (before after : Process) (from to : ℕ) : Type 0 where
@@ -37,8 +44,27 @@ pub record StepsTo (before after : Process) (from to : ℕ) : Type 0 where
   pub stepped : after ≡ stepped_on steps before
   pub counted : from + steps ≤ to
 
--- the process took steps, no more of them than the clock's cycles, and the run stopped so
+-- the machine did some rounds and stopped so; the process took steps, no more of them than the clock's cycles
 pub record Runs (before after : SystemState) (stop : Stop) : Type 0 where
-  pub steps : StepsTo before.process after.process before.clock after.clock
-  pub bounded : after.clock < 2 ^ 63
-  pub stops : StopsWith after.process stop
+  pub settings : after.settings ≡ before.settings
+  pub actions : ℕ
+  pub reached : after.machine ≡ rounds before.settings actions before.machine
+  pub stops : stop_of before.settings after.machine ≡ Some stop
+  pub steps : StepsTo before.machine.process after.machine.process before.machine.clock after.machine.clock
+  pub bounded : after.machine.clock < 2 ^ 63
+
+-- an instruction of the class asks for a service
+abbrev pub is_service_class : Class → Bool
+is_service_class class.Ecall = true
+is_service_class c = false
+
+-- what comes next asks for a service
+abbrev pub is_service : Upcoming → Bool
+is_service Denied = false
+is_service (Illegal word) = false
+is_service (Instruction i) = is_service_class (class_of i.op)
+
+-- the process goes on, and asks for a service
+pub record IsAsking (p : Process) : Type 0 where
+  pub running : p.over ≡ None
+  pub service : is_service (upcoming p.state) ≡ true

@@ -1,28 +1,25 @@
-ghost use Rattle.std.specs.Prelude.{◌≡◌, ◌≤◌, ◌<◌, ◌^◌, ◌∷◌, [], IfOk, None};
-ghost use Rattle.std.specs.Option.{ForSome};
+ghost use Rattle.std.specs.Prelude.{◌≡◌, ◌+◌, ◌-◌, ◌≤◌, ◌<◌, ◌^◌, ◌∷◌, [], IfOk, None, unwrap_or};
 ghost use Rattle.vx_machine.specs.Accounts.{account_of};
+ghost use Rattle.vx_machine.specs.Machine.{after_pause, passed, round, served, taken};
 ghost use Rattle.vx_machine.specs.Report.{report};
-ghost use Rattle.vx_system.specs.Runs.{Boots, Runs, StepsTo, SameButClock};
+ghost use Rattle.vx_system.specs.Runs.{Boots, IsAsking, Runs, StepsTo, settings_of, with_machine};
+ghost use Rattle.vx_times.specs.Episode.{episode};
 
-use crate::episode::{Pause, run_turn};
+use crate::episode::{run_episode, serve};
 use crate::report::{ProcessReport, push_process, push_total};
-use crate::timing::SWITCH;
+use crate::timing::{SERVICE, SWITCH};
 use std::alloc::{AllocError, Global};
 use std::marker::Model;
 use vx_alone::{Alone, ImageFault};
 use vx_base::{Bytes, Options};
 use vx_machine::Stop;
+use vx_times::Pause;
 
-/// A system with one process.
+/// A system with one process, and one instruction of it in flight at a time.
 #[derive(Debug, Drop)]
 pub struct System {
     process: Alone,
-    /// Cycles for which an access holds its bank.
-    bank_time: u64,
-    /// Cycles of a turn.
-    slice: u64,
-    /// Cycles after which the run ends.
-    budget: u64,
+    options: Options,
     /// The cycle that it is.
     clock: u64,
     /// The process's cycles so far.
@@ -30,17 +27,20 @@ pub struct System {
     /// The cycle at which the process's turn ends, while it has one.
     turn_end: Option<u64>,
     /// The process has had a turn.
-    taken: bool,
+    has_run: bool,
 }
 
 impl Model for System {
-    ghost use Rattle.vx_system.specs.Runs.{SystemState};
+    ghost use Rattle.vx_system.specs.Runs.{SystemState, settings_of};
 
     ghost Value = { SystemState };
 
     ghost use Rattle.vx_system.specs.Kept.{IsKept};
 
-    ghost view = { λ s. record { process = s.process; cycles = s.cycles; clock = s.clock; budget = s.budget } };
+    ghost view = { λ s. record {
+      settings = settings_of s.options;
+      machine = record { process = s.process; cycles = s.cycles; clock = s.clock; turn_end = s.turn_end; has_run = s.has_run };
+    } };
 
     ghost invariant = { IsKept };
 }
@@ -49,18 +49,17 @@ impl System {
     /// The system of a raw image, at cycle 0. It takes all the memory of the run here. `RawLength` and `TooManyPages`
     /// come exactly where the bytes have that fault.
     pub fn boot(alloc: Global, bytes: &[u8], options: &Options) -> Result<System, ImageFault>
-        ensures { Boots bytes.now options.now.budget result }
+        requires window { options.now.window ≡ 1 }
+        ensures { Boots bytes.now (settings_of options.now) result }
     {
         let process = Alone::boot(alloc, bytes)?;
         Ok(System {
             process,
-            bank_time: u64::from(options.bank_time),
-            slice: options.slice,
-            budget: options.budget,
+            options: *options,
             clock: 0,
             cycles: 0,
             turn_end: None,
-            taken: false,
+            has_run: false,
         })
     }
 
@@ -69,7 +68,7 @@ impl System {
         ensures { Runs self.old self.new result }
     {
         while self.process.over().is_none() {
-            if self.clock >= self.budget {
+            if self.clock >= self.options.budget {
                 return Stop::Spent;
             }
             self.turn();
@@ -77,45 +76,91 @@ impl System {
         Stop::Done
     }
 
-    /// The turn's end: the process goes on in its turn, or is given a new one.
+    /// The process goes on in its turn, or is given one; the first costs a switch. Gives the turn's end.
     fn take(&mut self) -> u64
-        requires { self.old.clock < self.old.budget }
-        ensures same { SameButClock self.old self.new }
-        ensures later { self.old.clock ≤ self.new.clock }
-        ensures clock { self.new.clock ≤ 2 ^ 41 }
-        ensures end { result ≤ 2 ^ 41 }
+        requires { self.old.machine.clock < self.old.settings.budget }
+        ensures taken { self.new ≡ with_machine self.old (taken self.old.settings self.old.machine) }
+        ensures end { result ≡ unwrap_or self.new.machine.turn_end 0 }
+        ensures process { self.new.machine.process ≡ self.old.machine.process }
+        ensures later { self.old.machine.clock ≤ self.new.machine.clock }
+        ensures clock { self.new.machine.clock ≤ 2 ^ 41 }
+        ensures until { result ≤ 2 ^ 41 }
     {
         if let Some(end) = self.turn_end {
             return end;
         }
-        if !self.taken {
-            self.taken = true;
+        if !self.has_run {
+            self.has_run = true;
             self.clock += SWITCH;
         }
-        let end = self.clock + self.slice;
+        let end = self.clock + self.options.slice;
         self.turn_end = Some(end);
         end
     }
 
-    /// One episode, and the service that ends it.
+    /// An episode of the process.
+    fn go(&mut self, until: u64) -> Pause
+        requires running { self.old.machine.process.over ≡ None }
+        requires clock { self.old.machine.clock ≤ 2 ^ 41 }
+        requires until { until ≤ 2 ^ 41 }
+        ensures pause { result ≡ (episode self.old.settings.organisation self.old.machine.clock until self.old.machine.process).pause }
+        ensures passed { let e = episode self.old.settings.organisation self.old.machine.clock until self.old.machine.process in
+            self.new ≡ with_machine self.old (passed self.old.machine e.process (e.clock - self.old.machine.clock)) }
+        ensures steps { StepsTo self.old.machine.process self.new.machine.process self.old.machine.clock self.new.machine.clock }
+        ensures bounded { self.new.machine.clock ≤ 2 ^ 41 + 128 }
+        ensures later { self.old.machine.clock < self.new.machine.clock }
+        ensures service { result ≡ Pause.Service → IsAsking self.new.machine.process }
+    {
+        let start = self.clock;
+        let bank_time = u64::from(self.options.bank_time);
+        let episode = run_episode(&mut self.process, start, until, bank_time);
+        self.cycles += episode.clock - start;
+        self.clock = episode.clock;
+        episode.pause
+    }
+
+    /// The service that the process asks for.
+    fn serve(&mut self)
+        requires asking { IsAsking self.old.machine.process }
+        requires clock { self.old.machine.clock ≤ 2 ^ 41 + 128 }
+        ensures served { self.new ≡ with_machine self.old (served self.old.machine) }
+        ensures steps { StepsTo self.old.machine.process self.new.machine.process self.old.machine.clock self.new.machine.clock }
+    {
+        let cycles = serve(&mut self.process) + SERVICE;
+        self.cycles += cycles;
+        self.clock += cycles;
+    }
+
+    /// What follows an episode that ended so: the turn ends with its slice, and a service is done.
+    fn finish(&mut self, pause: Pause)
+        requires service { pause ≡ Pause.Service → IsAsking self.old.machine.process }
+        requires clock { self.old.machine.clock ≤ 2 ^ 41 + 128 }
+        ensures finished { self.new ≡ with_machine self.old (after_pause self.old.machine pause) }
+        ensures steps { StepsTo self.old.machine.process self.new.machine.process self.old.machine.clock self.new.machine.clock }
+    {
+        match pause {
+            Pause::Slice => self.turn_end = None,
+            Pause::Service => self.serve(),
+            Pause::Over => {}
+        }
+    }
+
+    /// A round: an episode, and the service that ends it.
     fn turn(&mut self)
-        requires running { self.old.process.over ≡ None }
-        requires unspent { self.old.clock < self.old.budget }
-        ensures steps { StepsTo self.old.process self.new.process self.old.clock self.new.clock }
-        ensures later { self.old.clock < self.new.clock }
-        ensures budget { self.new.budget ≡ self.old.budget }
+        requires running { self.old.machine.process.over ≡ None }
+        requires unspent { self.old.machine.clock < self.old.settings.budget }
+        ensures round { self.new ≡ with_machine self.old (round self.old.settings self.old.machine) }
+        ensures steps { StepsTo self.old.machine.process self.new.machine.process self.old.machine.clock self.new.machine.clock }
+        ensures later { self.old.machine.clock < self.new.machine.clock }
     {
         let until = self.take();
-        let start = self.clock;
-        let episode = run_turn(&mut self.process, start, until, self.bank_time);
-        self.cycles += episode.end - start;
-        self.clock = episode.end;
-        self.turn_end = turn_end_after(episode.pause, until);
+        let pause = self.go(until);
+        self.finish(pause);
     }
 
     /// The report's bytes.
     pub fn report(&self, alloc: Global, stop: Stop) -> Result<Bytes, AllocError>
-        ensures { IfOk result (λ text. text ≡ report (account_of self.now.process self.now.cycles ∷ []) self.now.clock stop) }
+        ensures { IfOk result (λ text. text ≡ report (account_of self.now.machine ∷ []) self.now.machine.clock stop) }
     {
         let mut text = Vec::new(alloc);
         let arch = self.process.arch();
@@ -130,16 +175,5 @@ impl System {
         push_process(alloc, &mut text, 0, &process)?;
         push_total(alloc, &mut text, self.clock, stop)?;
         Ok(Bytes::of(text))
-    }
-}
-
-/// The turn's end after an episode that ended so: the turn is over where its slice is.
-fn turn_end_after(pause: Pause, until: u64) -> Option<u64>
-    requires { until ≤ 2 ^ 41 }
-    ensures { ForSome result (λ end. end ≤ 2 ^ 41) }
-{
-    match pause {
-        Pause::Slice => None,
-        Pause::Service | Pause::Over => Some(until),
     }
 }

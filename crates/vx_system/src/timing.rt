@@ -1,4 +1,7 @@
-ghost use Rattle.std.specs.Prelude.{◌+◌, ◌≤◌, ◌<◌, ◌^◌};
+ghost use Rattle.std.specs.Prelude.{◌≡◌, ◌<◌, ◌^◌};
+ghost use Rattle.vx_machine.specs.Machine.{words_held};
+ghost use Rattle.vx_system.specs.Order.{fault_time, retire_time};
+ghost use Rattle.vx_system.specs.Runs.{is_service};
 
 use vx_flat::Upcoming;
 use vx_rows::Class;
@@ -12,45 +15,55 @@ pub const TRAP: u64 = 20;
 /// Cycles of a service, beside those of the words that it moves.
 pub const SERVICE: u64 = 50;
 
-/// The cycle at which an instruction that was issued at a cycle retires: it completes one cycle after its issue, a store
-/// once its bank is done.
-pub fn retire_cycle(next: Upcoming, issue: u64, bank_time: u64) -> u64
-    requires issue { issue < 2 ^ 62 }
-    requires bank_time { bank_time ≤ 16 }
-    ensures later { issue < result }
-    ensures soon { result ≤ issue + 32 }
+/// How many cycles an instruction takes from its issue to its retire: it completes one cycle after its issue, a store once
+/// its bank is done.
+pub fn retire_time(next: Upcoming, bank_time: u64) -> u64
+    requires bank_time { bank_time < 2 ^ 32 }
+    ensures { result ≡ retire_time next bank_time }
 {
     match next {
-        Upcoming::Instruction(i) if i.op.class() == Class::Store => issue + bank_time + 3,
-        _ => issue + 2,
+        Upcoming::Instruction(i) => match i.op.class() {
+            Class::Store => bank_time + 3,
+            _ => 2,
+        },
+        Upcoming::Denied | Upcoming::Illegal(_) => 2,
     }
 }
 
-/// The cycle at which an instruction that was issued at a cycle and faulted ends its episode: at its issue, a store once
-/// its page was looked up.
-pub fn stop_cycle(next: Upcoming, issue: u64) -> u64
-    requires { issue < 2 ^ 62 }
-    ensures later { issue ≤ result }
-    ensures soon { result ≤ issue + 1 }
+/// How many cycles after its issue an instruction that faults ends its episode: none, a store once its page was looked up.
+pub fn fault_time(next: Upcoming) -> u64
+    ensures { result ≡ fault_time next }
 {
     match next {
-        Upcoming::Instruction(i) if i.op.class() == Class::Store => issue + 1,
-        _ => issue,
+        Upcoming::Instruction(i) => match i.op.class() {
+            Class::Store => 1,
+            _ => 0,
+        },
+        Upcoming::Denied | Upcoming::Illegal(_) => 0,
     }
 }
 
 /// Whether it asks for a service.
-pub fn is_service(next: Upcoming) -> bool {
-    matches!(next, Upcoming::Instruction(i) if i.op.class() == Class::Ecall)
+pub fn is_service(next: Upcoming) -> bool
+    ensures { result ≡ is_service next }
+{
+    match next {
+        Upcoming::Instruction(i) => match i.op.class() {
+            Class::Ecall => true,
+            _ => false,
+        },
+        Upcoming::Denied | Upcoming::Illegal(_) => false,
+    }
 }
 
 /// How many aligned words of 8 bytes hold so many bytes from an address on.
 pub fn words_held(address: u64, count: u64) -> u64
     requires { count < 2 ^ 62 }
-    ensures { result ≤ count + 1 }
+    ensures { result ≡ words_held address count }
 {
     if count == 0 {
-        return 0;
+        0
+    } else {
+        (address % 8 + count + 7) / 8
     }
-    address.saturating_add(count - 1) / 8 - address / 8 + 1
 }

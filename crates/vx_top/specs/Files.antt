@@ -6,6 +6,7 @@ use Rattle.vx_flat.specs.Image.{raw_image, raw_fault}
 use Rattle.vx_flat.specs.declared.fault.ImageFault.{ImageFault}
 use Rattle.vx_flat.specs.declared.fault.ImageFault.TheVariants as image
 use Rattle.vx_machine.specs.Claim.{Headline, HasFault}
+use Rattle.vx_machine.specs.Machine.{first_settings}
 use Rattle.vx_machine.specs.declared.stop.Stop.TheVariants as stop
 use Rattle.vx_top.specs.Noted.{Noted, NotesWant, Answers}
 use Rattle.vx_top.specs.declared.refusal.FileFault.{FileFault}
@@ -33,7 +34,7 @@ refusal_of image.NoMemory = NoMemory
 -- the bytes are an image, and it ran and stopped so, with this report
 pub record Ran (bytes : List ℕ) (report : Report) : Type 0 where
   pub is_image : raw_fault bytes ≡ None
-  pub headline : Headline (raw_image bytes) report.stop report.text
+  pub headline : Headline first_settings (raw_image bytes) report.stop report.text
 
 -- the bytes are refused for this
 abbrev pub RefusesBytes : List ℕ → Refusal → Type 0

@@ -1,0 +1,28 @@
+-- The cycles of an instruction that is alone in flight, from its issue on. This project's own; that they are those of the
+-- timing equations is proved.
+use Rattle.std.specs.Prelude.{ℕ, ◌+◌}
+use Rattle.vx_flat.specs.declared.upcoming.Upcoming.{Upcoming}
+use Rattle.vx_flat.specs.declared.upcoming.Upcoming.TheVariants.{Denied, Illegal, Instruction}
+use Rattle.vx_rows.specs.Table.{class_of}
+use Rattle.vx_rows.specs.declared.row.Class.{Class}
+use Rattle.vx_rows.specs.declared.row.Class.TheVariants as class
+
+-- how long an instruction of a class takes from its issue to its retire: a store until its bank is done
+abbrev pub class_time : Class → (bank_time : ℕ) → ℕ
+class_time class.Store bank_time = bank_time + 3
+class_time c bank_time = 2
+
+-- how long a fault of a class takes from the issue: a store until its page was looked up
+abbrev pub class_fault_time : Class → ℕ
+class_fault_time class.Store = 1
+class_fault_time c = 0
+
+abbrev pub retire_time : Upcoming → (bank_time : ℕ) → ℕ
+retire_time Denied bank_time = 2
+retire_time (Illegal word) bank_time = 2
+retire_time (Instruction i) bank_time = class_time (class_of i.op) bank_time
+
+abbrev pub fault_time : Upcoming → ℕ
+fault_time Denied = 0
+fault_time (Illegal word) = 0
+fault_time (Instruction i) = class_fault_time (class_of i.op)

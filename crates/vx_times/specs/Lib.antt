@@ -1,0 +1,4 @@
+pub mod Cycles
+pub mod Episode
+pub mod Footprint
+pub mod History
