@@ -1,3 +1,2 @@
 pub mod Claimed
-pub mod Headlined
 pub mod Spelled
