@@ -13,6 +13,7 @@ ghost use Rattle.vx_rows.specs.Table.{class_of};
 
 use crate::arch::{Arch, Regs};
 use crate::memory::Memory;
+use crate::scalar::is_executed;
 use crate::service::write;
 use crate::turn::Turn;
 use std::alloc::Global;
@@ -159,6 +160,7 @@ impl Alone {
             Class::Branch => self.branch(i),
             Class::Store => self.store(i),
             Class::Ecall => self.ecall(),
+            _ => self.fault(2, 0),
         }
     }
 
@@ -325,7 +327,7 @@ fn meaning(word: u32) -> Upcoming
     ensures { result ≡ meaning word (decoded word) }
 {
     match decode(word) {
-        None => Upcoming::Illegal(word),
-        Some(i) => Upcoming::Instruction(i),
+        Some(i) if is_executed(i.op) => Upcoming::Instruction(i),
+        _ => Upcoming::Illegal(word),
     }
 }

@@ -1,8 +1,25 @@
 ghost use Rattle.std.specs.Prelude.{◌≡◌, ◌^◌, ◌*◌};
 ghost use Rattle.vx_base.specs.Numbers.{reduced, signed};
-ghost use Rattle.vx_flat.specs.Scalar.{computed, is_taken};
+ghost use Rattle.vx_flat.specs.Scalar.{is_executed, computed, is_taken};
 
 use vx_rows::{Op, ScalarOp};
+
+/// Whether the machine executes an operation yet.
+pub fn is_executed(op: Op) -> bool
+    ensures { result ≡ is_executed op }
+{
+    matches!(
+        op,
+        Op::Scalar(
+            ScalarOp::Lui
+                | ScalarOp::Bne
+                | ScalarOp::Sb
+                | ScalarOp::Addi
+                | ScalarOp::Add
+                | ScalarOp::Ecall
+        )
+    )
+}
 
 /// The value of `rd`, of the pc, the numbers `a` in `rs1` and `b` in `rs2` and the immediate.
 pub fn computed(op: Op, pc: u64, a: u64, b: u64, imm: i64) -> u64
@@ -12,7 +29,7 @@ pub fn computed(op: Op, pc: u64, a: u64, b: u64, imm: i64) -> u64
         Op::Scalar(ScalarOp::Lui) => upper(imm),
         Op::Scalar(ScalarOp::Addi) => a.wrapping_add_signed(imm),
         Op::Scalar(ScalarOp::Add) => a.wrapping_add(b),
-        Op::Scalar(ScalarOp::Bne | ScalarOp::Sb | ScalarOp::Ecall) => 0,
+        _ => 0,
     }
 }
 

@@ -6,7 +6,7 @@ use Rattle.std.proofs.lemmas.Nat.{and_assoc, and_comm, and_mask}
 use Rattle.std.specs.List.{list_all, list_any}
 use Rattle.vx_decode.specs.Decoded.{decoded, with_operands}
 use Rattle.vx_decode.specs.Lookup.{operation_of, may_fit, operation_among}
-use Rattle.vx_rows.specs.Table.{row, shape_of, table, fixed_bits, has_bits_of}
+use Rattle.vx_rows.specs.Table.{row, shape_of, table, operations, has_bits_of}
 use Rattle.vx_rows.specs.declared.op.Op.{Op}
 use Rattle.vx_rows.specs.declared.row.Row.{Row}
 
@@ -30,7 +30,7 @@ find-kept test true r rows kept needed same = ap (λ x. cond (test r) (Some r) x
 find-kept test false r rows kept needed same = find-passed (test r) (Some r) _ _ (λ passes. false≢true (needed passes)) same
 
 -- the row of a word is among those that its known bits let fit
-find-may_fit : (word k bits : ℕ) (rows : List Row) → bit_and word k ≡ bits → find (has_bits_of word) rows ≡ find (has_bits_of word) (filter (may_fit k bits) rows)
+pub find-may_fit : (word k bits : ℕ) (rows : List Row) → bit_and word k ≡ bits → find (has_bits_of word) rows ≡ find (has_bits_of word) (filter (may_fit k bits) rows)
 find-may_fit word k bits [] known = refl
 find-may_fit word k bits (r ∷ rows) known =
     find-kept (has_bits_of word) (may_fit k bits r) r rows (filter (may_fit k bits) rows) (may_fit-from_bits word k bits r known) (find-may_fit word k bits rows known)
@@ -47,6 +47,11 @@ find-same_mask word mask (r ∷ rows) same =
 pub operation_of-among : (word k bits mask : ℕ) → bit_and word k ≡ bits → list_all (λ (r : Row). r.mask == mask) (filter (may_fit k bits) table) ≡ true → operation_among k bits (bit_and word mask) ≡ operation_of word
 operation_of-among word k bits mask known same =
     ap (λ r. option_map (λ (s : Row). s.op) r) (sym (find-may_fit word k bits table known ∙ find-same_mask word mask _ same))
+
+-- the operation of the one row that fits a word whose bits under its mask are known
+pub operation_of-at : (word mask value : ℕ) (op : Op) → bit_and word mask ≡ value → list_all (λ (r : Row). r.mask == mask) (filter (may_fit mask value) table) ≡ true → operation_among mask value value ≡ Some op → Some op ≡ operation_of word
+operation_of-at word mask value op known same is =
+    sym is ∙ ap (operation_among mask value) (sym known) ∙ operation_of-among word mask value mask known same
 
 -- each row fixes the bits of k to some of these
 abbrev pub has_one_of : ℕ → List ℕ → Row → Bool
@@ -71,20 +76,25 @@ pub operation_of-none : (word k : ℕ) (choices : List ℕ) → list_all (has_on
 operation_of-none word k choices each none =
     ap (λ r. option_map (λ (s : Row). s.op) r) (sym (find-none word k choices table each none))
 
+-- nor has one whose known bits let none but such rows fit
+pub operation_of-none_among : (word k bits l : ℕ) (choices : List ℕ) → bit_and word k ≡ bits → list_all (has_one_of l choices) (filter (may_fit k bits) table) ≡ true → list_any (λ c. bit_and word l == c) choices ≡ false → None ≡ operation_of word
+operation_of-none_among word k bits l choices known each none =
+    ap (λ r. option_map (λ (s : Row). s.op) r) (sym (find-may_fit word k bits table known ∙ find-none word l choices _ each none))
+
 -- a choice between two rows whose shapes are those of their operations
 shaped-choice : (word : ℕ) (b : Bool) (r : Row) → r.shape ≡ shape_of r.op → (o : Option Row) → option_map (λ (s : Row). with_operands word s.op s.shape) o ≡ option_map (λ op. with_operands word op (shape_of op)) (option_map (λ (s : Row). s.op) o) → option_map (λ (s : Row). with_operands word s.op s.shape) (cond b (Some r) o) ≡ option_map (λ op. with_operands word op (shape_of op)) (option_map (λ (s : Row). s.op) (cond b (Some r) o))
 shaped-choice word true r shaped o same = ap (λ shape. Some (with_operands word r.op shape)) shaped
 shaped-choice word false r shaped o same = same
 
 -- the shape of each row is that of its operation
-find-shaped : (word : ℕ) (test : Row → Bool) (rows : List (Op × ℕ × ℕ)) → option_map (λ (r : Row). with_operands word r.op r.shape) (find test (map row rows)) ≡ option_map (λ op. with_operands word op (shape_of op)) (option_map (λ (r : Row). r.op) (find test (map row rows)))
+find-shaped : (word : ℕ) (test : Row → Bool) (rows : List Op) → option_map (λ (r : Row). with_operands word r.op r.shape) (find test (map row rows)) ≡ option_map (λ op. with_operands word op (shape_of op)) (option_map (λ (r : Row). r.op) (find test (map row rows)))
 find-shaped word test [] = refl
 find-shaped word test (r ∷ rows) = shaped-choice word (test (row r)) (row r) refl _ (find-shaped word test rows)
 
 -- the instruction of a word with this operation
 pub decoded-operation : (word : ℕ) (op : Op) → Some op ≡ operation_of word → Some (with_operands word op (shape_of op)) ≡ decoded word
 decoded-operation word op is =
-    ap (option_map (λ op. with_operands word op (shape_of op))) is ∙ sym (find-shaped word (has_bits_of word) fixed_bits)
+    ap (option_map (λ op. with_operands word op (shape_of op))) is ∙ sym (find-shaped word (has_bits_of word) operations)
 
 -- all bits of a word
 pub and_all : (word : ℕ) → word < 2 ^ 32 → bit_and word 0xffffffff ≡ word

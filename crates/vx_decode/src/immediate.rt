@@ -1,5 +1,5 @@
 ghost use Rattle.std.specs.Prelude.{◌≡◌};
-ghost use Rattle.vx_decode.specs.Decoded.{immediate_i, immediate_s, immediate_b, immediate_u};
+ghost use Rattle.vx_decode.specs.Decoded.{immediate_i, immediate_s, immediate_b, immediate_j};
 
 use crate::field::{bits, signed_number};
 
@@ -25,9 +25,10 @@ pub(crate) fn number_b(word: u32) -> i64
     signed_number(13, high + bits(word, 25, 6) * 32 + bits(word, 8, 4) * 2)
 }
 
-/// The number of a word of format U, not shifted.
-pub(crate) fn number_u(word: u32) -> i64
-    ensures { result ≡ immediate_u word }
+/// The signed even number of a word of format J.
+pub(crate) fn number_j(word: u32) -> i64
+    ensures { result ≡ immediate_j word }
 {
-    i64::from(bits(word, 12, 20))
+    let high = bits(word, 31, 1) * 1_048_576 + bits(word, 12, 8) * 4096;
+    signed_number(21, high + bits(word, 20, 1) * 2048 + bits(word, 21, 10) * 2)
 }

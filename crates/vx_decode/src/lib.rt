@@ -1,15 +1,18 @@
-//! Instruction words and what they mean: `decode` reads a word's row and operands.
+//! Instruction words and what they mean: `decode` reads a word's row and operands, and `encode` writes them.
 //!
 //! It stands on `vx_rows`. To the crates above it gives `Instr` and, as a definition and as `decode`, the instruction
-//! that a word means.
+//! that a word means, and `encode`, its inverse both ways.
 #![tactic(auto)]
 
 mod decoder;
+mod encoder;
 mod field;
 mod immediate;
 mod instr;
+mod operation;
 #[cfg(test)]
 mod tests;
 
 pub use decoder::decode;
+pub use encoder::encode;
 pub use instr::Instr;

@@ -1,64 +1,243 @@
-use crate::{Instr, decode};
+use crate::{Instr, decode, encode};
 use vx_rows::{Op, ScalarOp};
 
-fn scalar(op: ScalarOp, rd: u8, rs1: u8, rs2: u8, imm: i64) -> Instr {
-    Instr {
-        op: Op::Scalar(op),
-        rd,
-        rs1,
-        rs2,
-        imm,
-        vm: true,
-        nf: 0,
+/// A word with the operation, `rd`, `rs1`, `rs2` and the immediate that it means. The words are LLVM's assembler's.
+struct Known(u32, ScalarOp, u8, u8, u8, i64);
+
+static WORDS: [Known; 90] = [
+    // lui x31, 1
+    Known(0x0000_1fb7, ScalarOp::Lui, 31, 0, 0, 1),
+    // lui x10, 524288
+    Known(0x8000_0537, ScalarOp::Lui, 10, 0, 0, 524_288),
+    // auipc x16, 699050
+    Known(0xaaaa_a817, ScalarOp::Auipc, 16, 0, 0, 699_050),
+    // auipc x5, 1048575
+    Known(0xffff_f297, ScalarOp::Auipc, 5, 0, 0, 1_048_575),
+    // jal x12, 4096
+    Known(0x0000_166f, ScalarOp::Jal, 12, 0, 0, 4096),
+    // jal x1, 699050
+    Known(0x2aba_a0ef, ScalarOp::Jal, 1, 0, 0, 699_050),
+    // jal x31, -699052
+    Known(0xd545_5fef, ScalarOp::Jal, 31, 0, 0, -699_052),
+    // jal x10, -2
+    Known(0xffff_f56f, ScalarOp::Jal, 10, 0, 0, -2),
+    // jalr x16, 1365(x8)
+    Known(0x5554_0867, ScalarOp::Jalr, 16, 8, 0, 1365),
+    // jalr x5, -1366(x21)
+    Known(0xaaaa_82e7, ScalarOp::Jalr, 5, 21, 0, -1366),
+    // beq x31, x1, 2048
+    Known(0x001f_80e3, ScalarOp::Beq, 0, 31, 1, 2048),
+    // beq x2, x3, -2050
+    Known(0xfe31_0f63, ScalarOp::Beq, 0, 2, 3, -2050),
+    // beq x30, x29, 34
+    Known(0x03df_0163, ScalarOp::Beq, 0, 30, 29, 34),
+    // bne x0, x17, 1364
+    Known(0x5510_1a63, ScalarOp::Bne, 0, 0, 17, 1364),
+    // bne x8, x4, -1366
+    Known(0xaa44_15e3, ScalarOp::Bne, 0, 8, 4, -1366),
+    // bne x21, x10, -2
+    Known(0xfeaa_9fe3, ScalarOp::Bne, 0, 21, 10, -2),
+    // blt x31, x1, 4094
+    Known(0x7e1f_cfe3, ScalarOp::Blt, 0, 31, 1, 4094),
+    // bge x2, x3, -4096
+    Known(0x8031_5063, ScalarOp::Bge, 0, 2, 3, -4096),
+    // bltu x30, x29, 2048
+    Known(0x01df_60e3, ScalarOp::Bltu, 0, 30, 29, 2048),
+    // bgeu x0, x17, -2050
+    Known(0xff10_7f63, ScalarOp::Bgeu, 0, 0, 17, -2050),
+    // lb x16, 1365(x8)
+    Known(0x5554_0803, ScalarOp::Lb, 16, 8, 0, 1365),
+    // lh x5, -1366(x21)
+    Known(0xaaaa_9283, ScalarOp::Lh, 5, 21, 0, -1366),
+    // lw x12, 8(x31)
+    Known(0x008f_a603, ScalarOp::Lw, 12, 31, 0, 8),
+    // ld x1, -1(x2)
+    Known(0xfff1_3083, ScalarOp::Ld, 1, 2, 0, -1),
+    // ld x31, 2047(x30)
+    Known(0x7fff_3f83, ScalarOp::Ld, 31, 30, 0, 2047),
+    // lbu x10, -2048(x0)
+    Known(0x8000_4503, ScalarOp::Lbu, 10, 0, 0, -2048),
+    // lhu x16, 1365(x8)
+    Known(0x5554_5803, ScalarOp::Lhu, 16, 8, 0, 1365),
+    // lwu x5, -1366(x21)
+    Known(0xaaaa_e283, ScalarOp::Lwu, 5, 21, 0, -1366),
+    // sb x1, 8(x31)
+    Known(0x001f_8423, ScalarOp::Sb, 0, 31, 1, 8),
+    // sb x3, -1(x2)
+    Known(0xfe31_0fa3, ScalarOp::Sb, 0, 2, 3, -1),
+    // sh x29, 2047(x30)
+    Known(0x7fdf_1fa3, ScalarOp::Sh, 0, 30, 29, 2047),
+    // sw x17, -2048(x0)
+    Known(0x8110_2023, ScalarOp::Sw, 0, 0, 17, -2048),
+    // sd x4, 1365(x8)
+    Known(0x5444_3aa3, ScalarOp::Sd, 0, 8, 4, 1365),
+    // sd x10, -1366(x21)
+    Known(0xaaaa_b523, ScalarOp::Sd, 0, 21, 10, -1366),
+    // addi x12, x31, 8
+    Known(0x008f_8613, ScalarOp::Addi, 12, 31, 0, 8),
+    // addi x1, x2, -1
+    Known(0xfff1_0093, ScalarOp::Addi, 1, 2, 0, -1),
+    // slti x31, x30, 2047
+    Known(0x7fff_2f93, ScalarOp::Slti, 31, 30, 0, 2047),
+    // sltiu x10, x0, -2048
+    Known(0x8000_3513, ScalarOp::Sltiu, 10, 0, 0, -2048),
+    // xori x16, x8, 1365
+    Known(0x5554_4813, ScalarOp::Xori, 16, 8, 0, 1365),
+    // ori x5, x21, -1366
+    Known(0xaaaa_e293, ScalarOp::Ori, 5, 21, 0, -1366),
+    // andi x12, x31, 8
+    Known(0x008f_f613, ScalarOp::Andi, 12, 31, 0, 8),
+    // slli x1, x2, 32
+    Known(0x0201_1093, ScalarOp::Slli, 1, 2, 0, 32),
+    // srli x31, x30, 21
+    Known(0x015f_5f93, ScalarOp::Srli, 31, 30, 0, 21),
+    // srai x10, x0, 63
+    Known(0x43f0_5513, ScalarOp::Srai, 10, 0, 0, 63),
+    // srai x16, x8, 1
+    Known(0x4014_5813, ScalarOp::Srai, 16, 8, 0, 1),
+    // addiw x5, x21, -1366
+    Known(0xaaaa_829b, ScalarOp::Addiw, 5, 21, 0, -1366),
+    // slliw x12, x31, 21
+    Known(0x015f_961b, ScalarOp::Slliw, 12, 31, 0, 21),
+    // srliw x1, x2, 31
+    Known(0x01f1_509b, ScalarOp::Srliw, 1, 2, 0, 31),
+    // sraiw x31, x30, 1
+    Known(0x401f_5f9b, ScalarOp::Sraiw, 31, 30, 0, 1),
+    // add x10, x0, x17
+    Known(0x0110_0533, ScalarOp::Add, 10, 0, 17, 0),
+    // sub x16, x8, x4
+    Known(0x4044_0833, ScalarOp::Sub, 16, 8, 4, 0),
+    // sll x5, x21, x10
+    Known(0x00aa_92b3, ScalarOp::Sll, 5, 21, 10, 0),
+    // slt x12, x31, x1
+    Known(0x001f_a633, ScalarOp::Slt, 12, 31, 1, 0),
+    // sltu x1, x2, x3
+    Known(0x0031_30b3, ScalarOp::Sltu, 1, 2, 3, 0),
+    // xor x31, x30, x29
+    Known(0x01df_4fb3, ScalarOp::Xor, 31, 30, 29, 0),
+    // srl x10, x0, x17
+    Known(0x0110_5533, ScalarOp::Srl, 10, 0, 17, 0),
+    // sra x16, x8, x4
+    Known(0x4044_5833, ScalarOp::Sra, 16, 8, 4, 0),
+    // or x5, x21, x10
+    Known(0x00aa_e2b3, ScalarOp::Or, 5, 21, 10, 0),
+    // and x12, x31, x1
+    Known(0x001f_f633, ScalarOp::And, 12, 31, 1, 0),
+    // mul x1, x2, x3
+    Known(0x0231_00b3, ScalarOp::Mul, 1, 2, 3, 0),
+    // mulh x31, x30, x29
+    Known(0x03df_1fb3, ScalarOp::Mulh, 31, 30, 29, 0),
+    // mulhsu x10, x0, x17
+    Known(0x0310_2533, ScalarOp::Mulhsu, 10, 0, 17, 0),
+    // mulhu x16, x8, x4
+    Known(0x0244_3833, ScalarOp::Mulhu, 16, 8, 4, 0),
+    // div x5, x21, x10
+    Known(0x02aa_c2b3, ScalarOp::Div, 5, 21, 10, 0),
+    // divu x12, x31, x1
+    Known(0x021f_d633, ScalarOp::Divu, 12, 31, 1, 0),
+    // rem x1, x2, x3
+    Known(0x0231_60b3, ScalarOp::Rem, 1, 2, 3, 0),
+    // remu x31, x30, x29
+    Known(0x03df_7fb3, ScalarOp::Remu, 31, 30, 29, 0),
+    // addw x10, x0, x17
+    Known(0x0110_053b, ScalarOp::Addw, 10, 0, 17, 0),
+    // subw x16, x8, x4
+    Known(0x4044_083b, ScalarOp::Subw, 16, 8, 4, 0),
+    // sllw x5, x21, x10
+    Known(0x00aa_92bb, ScalarOp::Sllw, 5, 21, 10, 0),
+    // srlw x12, x31, x1
+    Known(0x001f_d63b, ScalarOp::Srlw, 12, 31, 1, 0),
+    // sraw x1, x2, x3
+    Known(0x4031_50bb, ScalarOp::Sraw, 1, 2, 3, 0),
+    // mulw x31, x30, x29
+    Known(0x03df_0fbb, ScalarOp::Mulw, 31, 30, 29, 0),
+    // divw x10, x0, x17
+    Known(0x0310_453b, ScalarOp::Divw, 10, 0, 17, 0),
+    // divuw x16, x8, x4
+    Known(0x0244_583b, ScalarOp::Divuw, 16, 8, 4, 0),
+    // remw x5, x21, x10
+    Known(0x02aa_e2bb, ScalarOp::Remw, 5, 21, 10, 0),
+    // remuw x12, x31, x1
+    Known(0x021f_f63b, ScalarOp::Remuw, 12, 31, 1, 0),
+    // ecall
+    Known(0x0000_0073, ScalarOp::Ecall, 0, 0, 0, 0),
+    // ebreak
+    Known(0x0010_0073, ScalarOp::Ebreak, 0, 0, 0, 0),
+    // csrrw x5, 4095, x21
+    Known(0xfffa_92f3, ScalarOp::Csrrw, 5, 21, 0, 4095),
+    // csrrw x12, 10, x31
+    Known(0x00af_9673, ScalarOp::Csrrw, 12, 31, 0, 10),
+    // csrrs x1, 3104, x2
+    Known(0xc201_20f3, ScalarOp::Csrrs, 1, 2, 0, 3104),
+    // csrrc x31, 8, x30
+    Known(0x008f_3ff3, ScalarOp::Csrrc, 31, 30, 0, 8),
+    // csrrwi x10, 3106, 0
+    Known(0xc220_5573, ScalarOp::Csrrwi, 10, 0, 0, 3106),
+    // csrrwi x16, 15, 8
+    Known(0x00f4_5873, ScalarOp::Csrrwi, 16, 8, 0, 15),
+    // csrrsi x5, 3105, 21
+    Known(0xc21a_e2f3, ScalarOp::Csrrsi, 5, 21, 0, 3105),
+    // csrrci x12, 9, 31
+    Known(0x009f_f673, ScalarOp::Csrrci, 12, 31, 0, 9),
+    // fence iorw, iorw
+    Known(0x0ff0_000f, ScalarOp::Fence, 0, 0, 0, 255),
+    // fence r, w
+    Known(0x0210_000f, ScalarOp::Fence, 0, 0, 0, 33),
+    // fence.tso
+    Known(0x8330_000f, ScalarOp::Fence, 0, 0, 0, 2099),
+];
+
+#[test]
+fn words_and_instructions(rt: HostRuntime) {
+    for known in &WORDS {
+        let decoded = decode(known.0);
+        let instr = Instr {
+            op: Op::Scalar(known.1),
+            rd: known.2,
+            rs1: known.3,
+            rs2: known.4,
+            imm: known.5,
+            vm: true,
+            nf: 0,
+        };
+        assert_eq!(rt; decoded, Some(instr));
+        if let Some(instr) = decoded {
+            assert_eq!(rt; encode(&instr), known.0);
+        }
     }
 }
 
 #[test]
-fn decodes_each_row(rt: HostRuntime) {
-    let table = [
-        // lui a1, 0x10
-        (0x0001_05b7, scalar(ScalarOp::Lui, 11, 0, 0, 16)),
-        // lui t0, 0xfffff
-        (0xffff_f2b7, scalar(ScalarOp::Lui, 5, 0, 0, 0xf_ffff)),
-        // bne a0, a1, -6
-        (0xfeb5_1de3, scalar(ScalarOp::Bne, 0, 10, 11, -6)),
-        // bne t0, zero, 2050
-        (0x0002_91e3, scalar(ScalarOp::Bne, 0, 5, 0, 2050)),
-        // bne t0, zero, -4096
-        (0x8002_9063, scalar(ScalarOp::Bne, 0, 5, 0, -4096)),
-        // sb a1, -1(a0)
-        (0xfeb5_0fa3, scalar(ScalarOp::Sb, 0, 10, 11, -1)),
-        // sb t1, 33(t2)
-        (0x0263_80a3, scalar(ScalarOp::Sb, 0, 7, 6, 33)),
-        // addi a0, zero, 1
-        (0x0010_0513, scalar(ScalarOp::Addi, 10, 0, 0, 1)),
-        // addi a1, a1, 36
-        (0x0245_8593, scalar(ScalarOp::Addi, 11, 11, 0, 36)),
-        // addi sp, sp, -16
-        (0xff01_0113, scalar(ScalarOp::Addi, 2, 2, 0, -16)),
-        // add s0, s1, s2
-        (0x0124_8433, scalar(ScalarOp::Add, 8, 9, 18, 0)),
-        // ecall
-        (0x0000_0073, scalar(ScalarOp::Ecall, 0, 0, 0, 0)),
-    ];
-    for (word, instr) in &table {
-        assert_eq!(rt; decode(*word), Some(*instr));
-    }
-}
-
-#[test]
-fn refuses_words_with_no_row(rt: HostRuntime) {
-    // ebreak, ecall with a register, a word of opcode 0x17, beq, sh, slti, sub, mul, and two that no standard row has
+fn words_with_no_row(rt: HostRuntime) {
     let words = [
-        0x0010_0073,
+        // ecall and ebreak with a register or a number
         0x0000_00f3,
-        0x0001_0597,
-        0xfeb5_0de3,
-        0xfeb5_1fa3,
-        0x0010_2513,
-        0x4124_8433,
-        0x0324_8433,
+        0x0010_80f3,
+        0x0020_0073,
+        // a control register row with the function field 4
+        0x0000_4073,
+        // fence.i
+        0x0000_100f,
+        // jalr, a branch, a load and a store with function fields that no row has
+        0x0000_1067,
+        0x0000_2063,
+        0x0000_7003,
+        0x0000_4023,
+        // slli with bit 26, srli with bit 31, slliw with bit 25, addiw's opcode with the function field 2
+        0x0400_1013,
+        0x8000_5013,
+        0x0200_101b,
+        0x0000_201b,
+        // add with bit 26, sll and xor with bit 30, a word product with the function field 1
+        0x0400_0033,
+        0x4000_1033,
+        0x4000_4033,
+        0x0200_103b,
+        // compressed words, and the opcodes of the formats F and A
         0x0000_0000,
+        0x0000_4501,
+        0x0000_2007,
+        0x0000_202f,
         0xffff_ffff,
     ];
     for word in words {

@@ -38,6 +38,13 @@ Keeps-performed_as class.Arithmetic s i = IsPrefixOf-refl s.output
 Keeps-performed_as class.Branch s i = search (Keeps-if, IsPrefixOf-refl)
 Keeps-performed_as class.Store s i = search (Keeps-if, IsPrefixOf-refl)
 Keeps-performed_as class.Ecall s i = search (Keeps-if, IsPrefixOf-append)
+Keeps-performed_as class.Multiply s i = tt
+Keeps-performed_as class.Divide s i = tt
+Keeps-performed_as class.Jump s i = tt
+Keeps-performed_as class.Load s i = tt
+Keeps-performed_as class.Fence s i = tt
+Keeps-performed_as class.Ebreak s i = tt
+Keeps-performed_as class.Csr s i = tt
 
 Keeps-performed : (s : Flat) (u : Upcoming) → Keeps s.output (performed s u)
 unfolding performed

@@ -10,7 +10,7 @@ use Rattle.vx_rows.specs.Table.{class_of}
 use Rattle.vx_rows.specs.declared.row.Class.{Class}
 use Rattle.vx_rows.specs.declared.row.Class.TheVariants as class
 use Rattle.vx_flat.specs.Memory.{permits, bytes_at, put_bytes}
-use Rattle.vx_flat.specs.Scalar.{computed, is_taken, access_width}
+use Rattle.vx_flat.specs.Scalar.{is_executed, computed, is_taken, access_width}
 use Rattle.vx_flat.specs.Service.{service, answered}
 use Rattle.vx_flat.specs.State.{Flat, register, with_register, following}
 use Rattle.vx_flat.specs.declared.upcoming.Upcoming.{Upcoming}
@@ -27,10 +27,10 @@ pub data Outcome : Type 0 where
 abbrev pub faulted : Flat → (cause tval : ℕ) → Outcome
 faulted s cause tval = Faulted (record { cause = cause; tval = tval; vstart = 0 }) s
 
--- what a word means, as what comes next
+-- what a word means, as what comes next; one whose operation isn't executed yet is illegal
 abbrev pub meaning : ℕ → Option Instr → Upcoming
 meaning word None = Illegal word
-meaning word (Some i) = Instruction i
+meaning word (Some i) = if is_executed i.op then Instruction i else Illegal word
 
 -- the word at the pc
 abbrev pub word_at_pc : Flat → ℕ
@@ -84,6 +84,8 @@ performed_as class.Arithmetic s i = compute s i
 performed_as class.Branch s i = branch s i
 performed_as class.Store s i = store s i
 performed_as class.Ecall s i = ecall s
+-- no instruction of another class is executed yet
+performed_as other s i = faulted s 2 0
 
 -- what comes next, done
 unfoldable pub performed : Flat → Upcoming → Outcome

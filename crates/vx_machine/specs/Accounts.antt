@@ -29,11 +29,11 @@ standing_of pc None = Stopped pc 0
 -- what is told of the machine's process
 abbrev pub account_of : Machine → Account
 account_of m = record {
-    standing = standing_of m.process.state.pc m.process.over;
-    instructions = m.process.count;
-    cycles = m.cycles;
-    misses = 0;
-    output = m.process.state.output;
+  standing = standing_of m.process.state.pc m.process.over;
+  instructions = m.process.count;
+  cycles = m.cycles;
+  misses = 0;
+  output = m.process.state.output;
 }
 
 -- alone, the image exits so after n instructions and has written this

@@ -24,7 +24,7 @@ pub fn retire_time(next: Upcoming, bank_time: u64) -> u64
     match next {
         Upcoming::Instruction(i) => match i.op.class() {
             Class::Store => bank_time + 3,
-            Class::Arithmetic | Class::Branch | Class::Ecall => 2,
+            _ => 2,
         },
         Upcoming::Denied | Upcoming::Illegal(_) => 2,
     }
@@ -37,7 +37,7 @@ pub fn fault_time(next: Upcoming) -> u64
     match next {
         Upcoming::Instruction(i) => match i.op.class() {
             Class::Store => 1,
-            Class::Arithmetic | Class::Branch | Class::Ecall => 0,
+            _ => 0,
         },
         Upcoming::Denied | Upcoming::Illegal(_) => 0,
     }
@@ -50,7 +50,7 @@ pub fn is_service(next: Upcoming) -> bool
     match next {
         Upcoming::Instruction(i) => match i.op.class() {
             Class::Ecall => true,
-            Class::Arithmetic | Class::Branch | Class::Store => false,
+            _ => false,
         },
         Upcoming::Denied | Upcoming::Illegal(_) => false,
     }

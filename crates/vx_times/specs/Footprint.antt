@@ -67,6 +67,8 @@ footprint_as class.Arithmetic s i = computing i
 footprint_as class.Branch s i = branching i (branch s i)
 footprint_as class.Store s i = storing s i
 footprint_as class.Ecall s i = stopping Serves
+-- no instruction of another class is executed yet
+footprint_as other s i = stopping Faults
 
 -- of what comes next
 abbrev pub footprint_of : Flat → Upcoming → Footprint

@@ -1,9 +1,9 @@
 -- What each way through the call claims.
-use Rattle.std.proofs.Common.{◌≡◌, ℕ, List, ◌⊎◌, refl, subst, inl, inr, ◌≤◌, arith}
+use Rattle.std.proofs.Common.{◌≡◌, ℕ, List, refl, subst, inl, inr, ◌≤◌, arith}
 use Rattle.std.specs.Prelude.{Result, Ok, Err, IfOk, MatchResult}
 use Rattle.vx_base.specs.Shelf.{ShelfState}
 use Rattle.vx_base.specs.Sink.{SinkState}
-use Rattle.vx_machine.specs.Claim.{Claims, Devices}
+use Rattle.vx_machine.specs.Claim.{Claims}
 use Rattle.vx_top.specs.Noted.{Noted, NotesWant, Answers}
 use Rattle.vx_words.specs.Notes.{bad_words}
 use Rattle.vx_words.specs.Words.{AreOutside}

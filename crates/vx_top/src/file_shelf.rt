@@ -133,3 +133,62 @@ impl<R: Files> Shelf for FileShelf<R> {
         })
     }
 }
+
+#[cfg(test)]
+mod tests {
+    use super::*;
+    use std::test::Fail;
+    use std::{env, io, process};
+
+    /// A reader that is interrupted first, gives two bytes then, and fails after that.
+    #[derive(Drop)]
+    struct Broken {
+        reads: u8,
+    }
+
+    impl Read for Broken {
+        fn read(&mut self, buf: &mut [u8]) -> io::Result<usize> {
+            self.reads = self.reads.saturating_add(1);
+            match self.reads {
+                1 => Err(io::Error::from(ErrorKind::Interrupted)),
+                2 => Ok(buf.len().min(2)),
+                _ => Err(io::Error::from(ErrorKind::TimedOut)),
+            }
+        }
+    }
+
+    #[test]
+    fn a_file_is_fetched(rt: HostRuntime) -> Result<(), Fail> {
+        let alloc = rt.alloc();
+        let folder = env::temp_dir(&rt)?;
+        let id = process::id(rt.process());
+        let path = format!(in alloc; "{}/vx_top-{id}", folder.as_path().display())?;
+        let bytes = vec![in alloc; 7u8; 5000]?;
+        fs::write(&rt, path.as_str(), bytes.as_slice())?;
+        let mut shelf = FileShelf::new(alloc, &rt);
+        let whole = shelf.fetch(alloc, path.as_str(), 5000)?;
+        let long = shelf.fetch(alloc, path.as_str(), 4999)?;
+        let received = shelf.received;
+        fs::remove_file(&rt, path.as_str())?;
+        let absent = shelf.fetch(alloc, path.as_str(), 5000)?;
+        match &whole {
+            Fetched::Got(got) => assert_eq!(rt; got.slice(), bytes.as_slice()),
+            _ => assert!(rt; false),
+        }
+        assert!(rt; matches!(&long, Fetched::TooLong));
+        assert_eq!(rt; received, 5000);
+        assert!(rt; matches!(&absent, Fetched::Failed));
+        assert_eq!(rt; shelf.faults, 1);
+        assert_eq!(rt; shelf.asked.len(), 3);
+        Ok(())
+    }
+
+    #[test]
+    fn a_read_fails_in_the_middle(rt: HostRuntime) -> Result<(), Fail> {
+        let mut bytes = Vec::new(rt.alloc());
+        let ended = read_through(&mut Broken { reads: 0 }, &mut bytes, 8)?;
+        assert_eq!(rt; ended, Ended::AtFault);
+        assert_eq!(rt; bytes.len(), 2);
+        Ok(())
+    }
+}

@@ -11,6 +11,8 @@ mod out_sink;
 mod refusal;
 mod run;
 mod tell;
+#[cfg(test)]
+mod tests;
 mod words;
 
 pub use call::vexec;

@@ -1,6 +1,5 @@
 ghost use Rattle.std.specs.Prelude.{◌≡◌, ◌<◌, ◌≤◌, length, IfSome};
 
-use std::io;
 use std::io::{ErrorKind, Write};
 use std::marker::Model;
 use vx_base::{Put, Sink};
@@ -57,5 +56,49 @@ impl<W: Write> Sink for OutSink<W> {
                 Put::Failed
             }
         }
+    }
+}
+
+#[cfg(test)]
+mod tests {
+    use super::*;
+    use std::io;
+
+    /// A writer that is interrupted first, takes three bytes then, and nothing after that.
+    #[derive(Drop)]
+    struct Narrow<'a> {
+        writes: &'a mut usize,
+    }
+
+    impl Write for Narrow<'_> {
+        fn write(&mut self, buf: &[u8]) -> io::Result<usize> {
+            *self.writes = self.writes.saturating_add(1);
+            match *self.writes {
+                1 => Err(io::Error::from(ErrorKind::Interrupted)),
+                2 => Ok(buf.len().min(3)),
+                3 => Ok(0),
+                _ => Err(io::Error::from(ErrorKind::BrokenPipe)),
+            }
+        }
+
+        fn flush(&mut self) -> io::Result<()> {
+            Ok(())
+        }
+    }
+
+    #[test]
+    fn a_writer_takes_its_bytes(rt: HostRuntime) {
+        let mut sink = OutSink::new(Vec::new(rt.alloc()));
+        assert_eq!(rt; sink.put(b"issue"), Put::Took(5));
+        assert_eq!(rt; sink.put(b" bank"), Put::Took(5));
+        assert_eq!(rt; sink.writer.as_slice(), b"issue bank".as_slice());
+        let mut writes = 0;
+        let mut narrow = OutSink::new(Narrow {
+            writes: &mut writes,
+        });
+        assert_eq!(rt; narrow.put(b"issue"), Put::Took(3));
+        assert_eq!(rt; narrow.put(b"ue"), Put::Failed);
+        assert_eq!(rt; narrow.put(b"ue"), Put::Failed);
+        assert_eq!(rt; narrow.faults, 2);
     }
 }

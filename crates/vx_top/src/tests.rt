@@ -1,0 +1,192 @@
+ghost use Rattle.std.specs.Prelude.{◌<◌};
+
+use crate::{Status, vexec};
+use std::alloc::{AllocError, Global};
+use std::test::Fail;
+use vx_base::{Bytes, MemShelf, MemSink, NamedFile, Text};
+
+/// The forty bytes of a program that writes `hi` and a newline and exits with 0.
+const HI: [u8; 40] = [
+    0x13, 0x05, 0x10, 0x00, 0xb7, 0x05, 0x01, 0x00, 0x93, 0x85, 0x45, 0x02, 0x13, 0x06, 0x30, 0x00,
+    0x93, 0x08, 0x00, 0x04, 0x73, 0x00, 0x00, 0x00, 0x13, 0x05, 0x00, 0x00, 0x93, 0x08, 0xd0, 0x05,
+    0x73, 0x00, 0x00, 0x00, 0x68, 0x69, 0x0a, 0x00,
+];
+
+/// Its report.
+const HI_REPORT: &str =
+    "process 0: exited 0\n  instructions 9 cycles 164 misses 0\n  output 3\nhi\n\ntotal 264 cycles, done\n";
+
+/// A shelf of one file.
+fn shelf_of(alloc: Global, name: &str, bytes: Vec<u8>) -> Result<MemShelf, AllocError> {
+    let file = NamedFile {
+        name: Text::of(Vec::from_slice(alloc, name.as_bytes())?),
+        bytes: Bytes::of(bytes),
+    };
+    let mut files = Vec::new(alloc);
+    files.push(file)?;
+    Ok(MemShelf::new(alloc, files, Vec::new(alloc)))
+}
+
+/// A sink with room for a report, whose puts with these numbers fail.
+fn sink(alloc: Global, per_put: usize, fails: Vec<u64>) -> Result<MemSink, AllocError>
+    requires { 0 < per_put }
+{
+    MemSink::new(alloc, 4096, per_put, fails)
+}
+
+/// What a call answered, and what it wrote.
+#[derive(Drop)]
+struct Outcome {
+    status: Status,
+    out: MemSink,
+    note: MemSink,
+}
+
+/// Calls `vexec` with the words, which lie between spaces, and sinks that don't fail.
+fn call(alloc: Global, words: &str, shelf: &mut MemShelf) -> Result<Outcome, AllocError> {
+    let out = sink(alloc, 4096, Vec::new(alloc))?;
+    let note = sink(alloc, 4096, Vec::new(alloc))?;
+    call_on(alloc, words, shelf, out, note)
+}
+
+/// Calls `vexec` with the words, which lie between spaces, and these sinks.
+fn call_on(
+    alloc: Global,
+    words: &str,
+    shelf: &mut MemShelf,
+    mut out: MemSink,
+    mut note: MemSink,
+) -> Result<Outcome, AllocError> {
+    let mut list = Vec::new(alloc);
+    for word in words.split_whitespace() {
+        list.push(String::from_str(alloc, word)?)?;
+    }
+    let status = vexec(alloc, list.as_slice(), shelf, &mut out, &mut note);
+    Ok(Outcome { status, out, note })
+}
+
+#[test]
+fn images_are_run_and_reported(rt: HostRuntime) -> Result<(), Fail> {
+    let alloc = rt.alloc();
+    let table = [
+        (HI.as_slice(), HI_REPORT),
+        (
+            [
+                0x13, 0x05, 0xf0, 0xff, 0x93, 0x08, 0xd0, 0x05, 0x73, 0, 0, 0,
+            ]
+            .as_slice(),
+            "process 0: exited -1\n  instructions 3 cycles 77 misses 0\n  output 0\n\ntotal 177 cycles, done\n",
+        ),
+        (
+            [0; 4].as_slice(),
+            "process 0: faulted cause 2 pc 0x0000000000010000 tval 0x0000000000000000 vstart 0\n  instructions 0 cycles 21 misses 0\n  output 0\n\ntotal 121 cycles, done\n",
+        ),
+    ];
+    for (bytes, report) in table {
+        let mut shelf = shelf_of(alloc, "image", Vec::from_slice(alloc, bytes)?)?;
+        let done = call(alloc, "run --window 1 --lanes 1 raw:image", &mut shelf)?;
+        assert_eq!(rt; done.status, Status::Done, "{report}");
+        assert_eq!(rt; done.out.bytes(), report.as_bytes());
+        assert_eq!(rt; done.note.bytes().len(), 0);
+    }
+    Ok(())
+}
+
+#[test]
+fn words_outside_the_grammar_are_refused(rt: HostRuntime) -> Result<(), Fail> {
+    let alloc = rt.alloc();
+    let table = [
+        ("", "0"),
+        ("run", "1"),
+        ("alone raw:hi", "0"),
+        ("run raw:hi", "1"),
+        ("run --window 2 --lanes 1 raw:hi", "2"),
+        ("run --window 1 --lanes 2 raw:hi", "4"),
+        ("run --window 1 --lanes 1", "5"),
+        ("run --window 1 --lanes 1 hi", "5"),
+        ("run --window 1 --lanes 1 raw:", "5"),
+        ("run --window 1 --lanes 1 raw:hi raw:hi", "6"),
+    ];
+    for (words, index) in table {
+        let mut shelf = shelf_of(alloc, "hi", Vec::from_slice(alloc, HI.as_slice())?)?;
+        let refused = call(alloc, words, &mut shelf)?;
+        let want = format!(in alloc; "vexec: bad words at {index}\n")?;
+        assert_eq!(rt; refused.status, Status::Usage, "{words}");
+        assert_eq!(rt; refused.note.bytes(), want.as_bytes(), "{words}");
+        assert_eq!(rt; refused.out.bytes().len(), 0);
+    }
+    Ok(())
+}
+
+#[test]
+fn files_are_refused(rt: HostRuntime) -> Result<(), Fail> {
+    let alloc = rt.alloc();
+    let table = [
+        ("e", 0, Status::BadImage, "vexec: e: raw length 0\n"),
+        ("odd", 6, Status::BadImage, "vexec: odd: raw length 6\n"),
+        (
+            "big",
+            4081 * 4096,
+            Status::BadImage,
+            "vexec: big: 4097 pages\n",
+        ),
+        (
+            "long",
+            33_554_433,
+            Status::BadImage,
+            "vexec: long: longer than 33554432 bytes\n",
+        ),
+        ("other", 4, Status::ReadFault, "vexec: gone: read failed\n"),
+    ];
+    for (name, length, status, note) in table {
+        let mut shelf = shelf_of(alloc, name, vec![in alloc; 0u8; length]?)?;
+        let asked = if status == Status::ReadFault {
+            "gone"
+        } else {
+            name
+        };
+        let words = format!(in alloc; "run --window 1 --lanes 1 raw:{asked}")?;
+        let refused = call(alloc, words.as_str(), &mut shelf)?;
+        assert_eq!(rt; refused.status, status, "{name}");
+        assert_eq!(rt; refused.note.bytes(), note.as_bytes());
+        assert_eq!(rt; refused.out.bytes().len(), 0);
+    }
+    Ok(())
+}
+
+#[test]
+fn a_fault_of_the_output_cuts_the_report_off(rt: HostRuntime) -> Result<(), Fail> {
+    let alloc = rt.alloc();
+    let mut shelf = shelf_of(alloc, "hi", Vec::from_slice(alloc, HI.as_slice())?)?;
+    let out = sink(alloc, 5, vec![in alloc; 2]?)?;
+    let note = sink(alloc, 4096, Vec::new(alloc))?;
+    let cut = call_on(
+        alloc,
+        "run --window 1 --lanes 1 raw:hi",
+        &mut shelf,
+        out,
+        note,
+    )?;
+    assert_eq!(rt; cut.status, Status::WriteFault);
+    assert_eq!(rt; cut.out.bytes(), b"proce".as_slice());
+    assert_eq!(rt; cut.note.bytes(), b"vexec: write failed\n".as_slice());
+    Ok(())
+}
+
+#[test]
+fn a_failing_note_changes_no_status(rt: HostRuntime) -> Result<(), Fail> {
+    let alloc = rt.alloc();
+    let mut shelf = shelf_of(alloc, "hi", Vec::from_slice(alloc, HI.as_slice())?)?;
+    let out = sink(alloc, 4096, Vec::new(alloc))?;
+    let note = sink(alloc, 7, vec![in alloc; 2]?)?;
+    let refused = call_on(
+        alloc,
+        "run --window 1 --lanes 1 raw:gone",
+        &mut shelf,
+        out,
+        note,
+    )?;
+    assert_eq!(rt; refused.status, Status::ReadFault);
+    assert_eq!(rt; refused.note.bytes(), b"vexec: ".as_slice());
+    Ok(())
+}
