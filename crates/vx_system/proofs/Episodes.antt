@@ -74,7 +74,13 @@ class-retires lanes banks bank_time start r k history class.Branch s i q other h
 class-retires lanes banks bank_time start r k history class.Store s i q other h e =
     store-retires lanes banks bank_time start r k history i.rs1 i.rs2 0 (access_address s i) _ (permits s.memory (access_address s i) Store) _ _ _ q (omega arith) none none h
 class-retires lanes banks bank_time start r k history class.Ecall s i q other h e = absurd (true-false other)
-class-retires lanes banks bank_time start r k history c s i q other h e = absurd h
+class-retires lanes banks bank_time start r k history class.Multiply s i q other h e = absurd h
+class-retires lanes banks bank_time start r k history class.Divide s i q other h e = absurd h
+class-retires lanes banks bank_time start r k history class.Jump s i q other h e = absurd h
+class-retires lanes banks bank_time start r k history class.Load s i q other h e = absurd h
+class-retires lanes banks bank_time start r k history class.Fence s i q other h e = absurd h
+class-retires lanes banks bank_time start r k history class.Ebreak s i q other h e = absurd h
+class-retires lanes banks bank_time start r k history class.Csr s i q other h e = absurd h
 
 class-stops : (lanes banks bank_time start r k : ℕ) (history : History) (c : Class) (s : Flat) (i : Instr) → IsQuiet (in_order lanes banks bank_time) start r history → is_service_class c ≡ false → Ends (performed_as c s i) → k ≡ r + 1 + class_fault_time c → StopsAt (in_order lanes banks bank_time) start history (footprint_as c s i) Over k
 class-stops lanes banks bank_time start r k history class.Arithmetic s i q other h e = absurd h
@@ -82,14 +88,26 @@ class-stops lanes banks bank_time start r k history class.Branch s i q other h e
 class-stops lanes banks bank_time start r k history class.Store s i q other h e =
     store-stops lanes banks bank_time start r k history i.rs1 i.rs2 0 (access_address s i) _ (permits s.memory (access_address s i) Store) _ _ _ q (omega arith) none h
 class-stops lanes banks bank_time start r k history class.Ecall s i q other h e = absurd (true-false other)
-class-stops lanes banks bank_time start r k history c s i q other h e = StopsAt-serial lanes banks bank_time start r k history Faults q (omega arith)
+class-stops lanes banks bank_time start r k history class.Multiply s i q other h e = StopsAt-serial lanes banks bank_time start r k history Faults q (omega arith)
+class-stops lanes banks bank_time start r k history class.Divide s i q other h e = StopsAt-serial lanes banks bank_time start r k history Faults q (omega arith)
+class-stops lanes banks bank_time start r k history class.Jump s i q other h e = StopsAt-serial lanes banks bank_time start r k history Faults q (omega arith)
+class-stops lanes banks bank_time start r k history class.Load s i q other h e = StopsAt-serial lanes banks bank_time start r k history Faults q (omega arith)
+class-stops lanes banks bank_time start r k history class.Fence s i q other h e = StopsAt-serial lanes banks bank_time start r k history Faults q (omega arith)
+class-stops lanes banks bank_time start r k history class.Ebreak s i q other h e = StopsAt-serial lanes banks bank_time start r k history Faults q (omega arith)
+class-stops lanes banks bank_time start r k history class.Csr s i q other h e = StopsAt-serial lanes banks bank_time start r k history Faults q (omega arith)
 
 class-serves : (lanes banks bank_time start r k : ℕ) (history : History) (c : Class) (s : Flat) (i : Instr) → IsQuiet (in_order lanes banks bank_time) start r history → is_service_class c ≡ true → k ≡ r + 1 → StopsAt (in_order lanes banks bank_time) start history (footprint_as c s i) Service k
 class-serves lanes banks bank_time start r k history class.Arithmetic s i q asks e = absurd (true-false (sym asks))
 class-serves lanes banks bank_time start r k history class.Branch s i q asks e = absurd (true-false (sym asks))
 class-serves lanes banks bank_time start r k history class.Store s i q asks e = absurd (true-false (sym asks))
+class-serves lanes banks bank_time start r k history class.Multiply s i q asks e = absurd (true-false (sym asks))
+class-serves lanes banks bank_time start r k history class.Divide s i q asks e = absurd (true-false (sym asks))
+class-serves lanes banks bank_time start r k history class.Jump s i q asks e = absurd (true-false (sym asks))
+class-serves lanes banks bank_time start r k history class.Load s i q asks e = absurd (true-false (sym asks))
+class-serves lanes banks bank_time start r k history class.Fence s i q asks e = absurd (true-false (sym asks))
+class-serves lanes banks bank_time start r k history class.Ebreak s i q asks e = absurd (true-false (sym asks))
+class-serves lanes banks bank_time start r k history class.Csr s i q asks e = absurd (true-false (sym asks))
 class-serves lanes banks bank_time start r k history class.Ecall s i q asks e = StopsAt-serial lanes banks bank_time start r k history Serves q e
-class-serves lanes banks bank_time start r k history c s i q asks e = absurd (true-false (sym asks))
 
 -- what comes next
 upcoming-retires : (lanes banks bank_time start r k : ℕ) (history : History) (s : Flat) (u : Upcoming) → IsQuiet (in_order lanes banks bank_time) start r history → is_service u ≡ false → GoesOn (performed s u) → k ≡ r + 1 + retire_time u bank_time → RetiresAt (in_order lanes banks bank_time) start history (footprint_of s u) k
@@ -140,8 +158,9 @@ done-filtered test [] k h = h
 done-filtered test (a ∷ accesses) k h =
     let rest : greatest (done_cycles (filter test accesses)) ≤ k = done-filtered test accesses k (omega (arith, h)) in
     elim (test a) as (λ (b : Bool). greatest (done_cycles (if b then a ∷ filter test accesses else filter test accesses)) ≤ k) [
-      true ↦ max-le (omega (arith, h)) rest
-    | false ↦ rest ]
+      | true ↦ max-le (omega (arith, h)) rest
+      | false ↦ rest
+    ]
 
 end-of : (last : ℕ) (batches : List BatchTimes) → greatest (done_cycles (accesses_of batches)) ≤ last → end_cycle last batches ≡ last + 20
 end-of last batches h =
@@ -152,8 +171,9 @@ abbrev next_event : Organisation → (start until bound : ℕ) → History → P
 next_event machine start until bound history p (Stops pause last batches) = ended history pause last batches (process_at pause p)
 next_event machine start until bound history p (Retires entry) =
     elim (nat_le until entry.retired) [
-      true ↦ ended (entry ∷ history) Slice entry.retired [] (stepped p)
-    | false ↦ run_on machine start until bound (entry ∷ history) (stepped p) ]
+      | true ↦ ended (entry ∷ history) Slice entry.retired [] (stepped p)
+      | false ↦ run_on machine start until bound (entry ∷ history) (stepped p)
+    ]
 
 run_on-next : (machine : Organisation) (start until bound : ℕ) (history : History) (p : Process) (e : Event) → event machine start history (footprint p.state) ≡ e → run_on machine start until (suc bound) history p ≡ next_event machine start until bound history p e
 unfolding run_on

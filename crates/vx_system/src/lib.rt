@@ -7,6 +7,8 @@
 mod episode;
 mod report;
 mod system;
+#[cfg(test)]
+mod tests;
 mod timing;
 
 pub use system::System;

@@ -36,8 +36,7 @@ loop-next-init c = (c.requires.running, StepsTo-none _ _, c.requires.start, λ l
 pub loop-next-preserved : goal.loop-next-preserved
 loop-next-preserved c =
     let other : is_service c.upcoming-next.result ≡ false = sym c.is_service.ensures ∙ c.if-is_service.false in
-    let goes : is_some c.perform.new.self.over ≡ false = cc in
-    (
+    let goes : is_some c.perform.new.self.over ≡ false = cc in (
       search rules,
       StepsTo-step _ _ _ c.args.start c.loop-next.retired _ c.loop-next.invariant.1 c.perform.ensures.stepped (omega arith),
       omega arith,
