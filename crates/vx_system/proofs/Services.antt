@@ -19,17 +19,8 @@ use Rattle.vx_system.proofs.Episodes.{stepped-is, true-false}
 use Rattle.vx_system.specs.Runs.{is_service, is_service_class, IsAsking}
 
 class-ecall : (c : Class) (s : Flat) (i : Instr) → is_service_class c ≡ true → performed_as c s i ≡ ecall s
-class-ecall class.Arithmetic s i asks = absurd (true-false (sym asks))
-class-ecall class.Branch s i asks = absurd (true-false (sym asks))
-class-ecall class.Store s i asks = absurd (true-false (sym asks))
-class-ecall class.Multiply s i asks = absurd (true-false (sym asks))
-class-ecall class.Divide s i asks = absurd (true-false (sym asks))
-class-ecall class.Jump s i asks = absurd (true-false (sym asks))
-class-ecall class.Load s i asks = absurd (true-false (sym asks))
-class-ecall class.Fence s i asks = absurd (true-false (sym asks))
-class-ecall class.Ebreak s i asks = absurd (true-false (sym asks))
-class-ecall class.Csr s i asks = absurd (true-false (sym asks))
 class-ecall class.Ecall s i asks = refl
+class-ecall c s i asks = absurd (true-false (sym asks))
 
 upcoming-ecall : (s : Flat) (u : Upcoming) → is_service u ≡ true → performed s u ≡ ecall s
 unfolding performed
