@@ -50,8 +50,9 @@ booted_machine image = record { process = begun image; cycles = 0; clock = 0; tu
 -- how the run stops at a boundary: with the process ended, or else with the clock at the budget
 abbrev pub stop_of : Settings → Machine → Option Stop
 stop_of settings m = elim (m.process.over) [
-    Some end ↦ Some Done
-  | None ↦ if nat_le settings.budget m.clock then Some Spent else None ]
+  | Some end ↦ Some Done
+  | None ↦ if nat_le settings.budget m.clock then Some Spent else None
+]
 
 -- the process is given a turn from a cycle on
 abbrev pub given_turn : Settings → Machine → ℕ → Machine
@@ -60,8 +61,9 @@ given_turn settings m clock = record m { clock = clock; turn_end = Some (clock +
 -- the process goes on in its turn, or is given one; the first costs a switch
 abbrev pub taken : Settings → Machine → Machine
 taken settings m = elim (m.turn_end) [
-    Some end ↦ m
-  | None ↦ given_turn settings m (m.clock + (if m.has_run then 0 else switch_cycles)) ]
+  | Some end ↦ m
+  | None ↦ given_turn settings m (m.clock + (if m.has_run then 0 else switch_cycles))
+]
 
 -- how many aligned words of 8 bytes hold so many bytes from an address on
 abbrev pub words_held : (address count : ℕ) → ℕ

@@ -24,7 +24,7 @@ use Rattle.vx_times.specs.Footprint.SerialStop.{Serves, Faults}
 use Rattle.vx_times.specs.History.{Organisation, History, AccessTimes, BatchTimes, greatest, batches_of, accesses_of, done_cycles}
 use Rattle.vx_times.specs.declared.pause.Pause.{Pause}
 use Rattle.vx_times.specs.declared.pause.Pause.TheVariants.{Slice, Service, Over}
-use Rattle.vx_system.proofs.Quiet.{IsQuiet, IsQuiet-start, RetiresAt, RetiresAt-plain, RetiresAt-store, StopsAt, StopsAt-serial, StopsAt-store, in_order, one_store, access_of}
+use Rattle.vx_system.proofs.Quiet.{IsQuiet, IsQuiet-start, RetiresAt, RetiresAt-plain, RetiresAt-access, StopsAt, StopsAt-serial, StopsAt-access, in_order, one_access, access_of}
 use Rattle.vx_system.specs.Order.{class_time, class_fault_time, retire_time, fault_time}
 use Rattle.vx_system.specs.Runs.{is_service, is_service_class}
 
@@ -41,7 +41,7 @@ Ends (Faulted fault s) = Unit {0}
 
 -- a branch
 branch-retires : (lanes banks bank_time start r k : ℕ) (history : History) (i : Instr) (o : Outcome) → IsQuiet (in_order lanes banks bank_time) start r history → k ≡ r + 3 → GoesOn o → RetiresAt (in_order lanes banks bank_time) start history (branching i o) k
-branch-retires lanes banks bank_time start r k history i (Next s) q e h = RetiresAt-plain lanes banks bank_time start r k history true i.rs1 i.rs2 [] q e
+branch-retires lanes banks bank_time start r k history i (Next s) q e h = RetiresAt-plain lanes banks bank_time start r k history false true 1 i.rs1 i.rs2 [] q (omega arith) (omega arith)
 branch-retires lanes banks bank_time start r k history i (Exited code) q e h = absurd h
 branch-retires lanes banks bank_time start r k history i (Faulted fault s) q e h = absurd h
 
@@ -50,16 +50,16 @@ branch-stops lanes banks bank_time start r k history i (Next s) q e h = absurd h
 branch-stops lanes banks bank_time start r k history i (Exited code) q e h = StopsAt-serial lanes banks bank_time start r k history Faults q e
 branch-stops lanes banks bank_time start r k history i (Faulted fault s) q e h = StopsAt-serial lanes banks bank_time start r k history Faults q e
 
--- a store, whose address fits and whose page grants it or not
-store-retires : (lanes banks bank_time start r k : ℕ) (history : History) (a b element address : ℕ) (fits granted : Bool) (x y z : Outcome) → IsQuiet (in_order lanes banks bank_time) start r history → k ≡ r + 4 + bank_time → (GoesOn x → ⊥) → (GoesOn y → ⊥) → GoesOn (if not fits then x else if not granted then y else z) → RetiresAt (in_order lanes banks bank_time) start history (one_store a b (access_of element address true (fits && granted))) k
-store-retires lanes banks bank_time start r k history a b element address true true x y z q e nx ny h = RetiresAt-store lanes banks bank_time start r k history a b element address q e
-store-retires lanes banks bank_time start r k history a b element address true false x y z q e nx ny h = absurd (ny h)
-store-retires lanes banks bank_time start r k history a b element address false granted x y z q e nx ny h = absurd (nx h)
+-- a load or a store, whose address fits and whose page grants it or not
+access-retires : (lanes banks bank_time start r k : ℕ) (history : History) (a b : ℕ) (writes : List ℕ) (element address : ℕ) (is_store fits granted : Bool) (x y z : Outcome) → IsQuiet (in_order lanes banks bank_time) start r history → k ≡ r + 4 + bank_time → (GoesOn x → ⊥) → (GoesOn y → ⊥) → GoesOn (if not fits then x else if not granted then y else z) → RetiresAt (in_order lanes banks bank_time) start history (one_access a b writes (access_of element address is_store (fits && granted))) k
+access-retires lanes banks bank_time start r k history a b writes element address is_store true true x y z q e nx ny h = RetiresAt-access lanes banks bank_time start r k history a b writes element address is_store q e
+access-retires lanes banks bank_time start r k history a b writes element address is_store true false x y z q e nx ny h = absurd (ny h)
+access-retires lanes banks bank_time start r k history a b writes element address is_store false granted x y z q e nx ny h = absurd (nx h)
 
-store-stops : (lanes banks bank_time start r k : ℕ) (history : History) (a b element address : ℕ) (fits granted : Bool) (x y z : Outcome) → IsQuiet (in_order lanes banks bank_time) start r history → k ≡ r + 2 → (Ends z → ⊥) → Ends (if not fits then x else if not granted then y else z) → StopsAt (in_order lanes banks bank_time) start history (one_store a b (access_of element address true (fits && granted))) Over k
-store-stops lanes banks bank_time start r k history a b element address true true x y z q e nz h = absurd (nz h)
-store-stops lanes banks bank_time start r k history a b element address true false x y z q e nz h = StopsAt-store lanes banks bank_time start r k history a b element address q e
-store-stops lanes banks bank_time start r k history a b element address false granted x y z q e nz h = StopsAt-store lanes banks bank_time start r k history a b element address q e
+access-stops : (lanes banks bank_time start r k : ℕ) (history : History) (a b : ℕ) (writes : List ℕ) (element address : ℕ) (is_store fits granted : Bool) (x y z : Outcome) → IsQuiet (in_order lanes banks bank_time) start r history → k ≡ r + 2 → (Ends z → ⊥) → Ends (if not fits then x else if not granted then y else z) → StopsAt (in_order lanes banks bank_time) start history (one_access a b writes (access_of element address is_store (fits && granted))) Over k
+access-stops lanes banks bank_time start r k history a b writes element address is_store true true x y z q e nz h = absurd (nz h)
+access-stops lanes banks bank_time start r k history a b writes element address is_store true false x y z q e nz h = StopsAt-access lanes banks bank_time start r k history a b writes element address is_store q e
+access-stops lanes banks bank_time start r k history a b writes element address is_store false granted x y z q e nz h = StopsAt-access lanes banks bank_time start r k history a b writes element address is_store q e
 
 none : ⊥ → ⊥
 none h = h
@@ -69,45 +69,24 @@ true-false e = cc
 
 -- an instruction of a class
 class-retires : (lanes banks bank_time start r k : ℕ) (history : History) (c : Class) (s : Flat) (i : Instr) → IsQuiet (in_order lanes banks bank_time) start r history → is_service_class c ≡ false → GoesOn (performed_as c s i) → k ≡ r + 1 + class_time c bank_time → RetiresAt (in_order lanes banks bank_time) start history (footprint_as c s i) k
-class-retires lanes banks bank_time start r k history class.Arithmetic s i q other h e = RetiresAt-plain lanes banks bank_time start r k history false i.rs1 i.rs2 (i.rd ∷ []) q (omega arith)
+class-retires lanes banks bank_time start r k history class.Arithmetic s i q other h e = RetiresAt-plain lanes banks bank_time start r k history false false 1 i.rs1 i.rs2 (i.rd ∷ []) q (omega arith) (omega arith)
 class-retires lanes banks bank_time start r k history class.Branch s i q other h e = branch-retires lanes banks bank_time start r k history i (branch s i) q (omega arith) h
 class-retires lanes banks bank_time start r k history class.Store s i q other h e =
-    store-retires lanes banks bank_time start r k history i.rs1 i.rs2 0 (access_address s i) _ (permits s.memory (access_address s i) Store) _ _ _ q (omega arith) none none h
+    access-retires lanes banks bank_time start r k history i.rs1 i.rs2 [] 0 (access_address s i) true _ (permits s.memory (access_address s i) Store) _ _ _ q (omega arith) none none h
 class-retires lanes banks bank_time start r k history class.Ecall s i q other h e = absurd (true-false other)
-class-retires lanes banks bank_time start r k history class.Multiply s i q other h e = absurd h
-class-retires lanes banks bank_time start r k history class.Divide s i q other h e = absurd h
-class-retires lanes banks bank_time start r k history class.Jump s i q other h e = absurd h
-class-retires lanes banks bank_time start r k history class.Load s i q other h e = absurd h
-class-retires lanes banks bank_time start r k history class.Fence s i q other h e = absurd h
-class-retires lanes banks bank_time start r k history class.Ebreak s i q other h e = absurd h
-class-retires lanes banks bank_time start r k history class.Csr s i q other h e = absurd h
+class-retires lanes banks bank_time start r k history c s i q other h e = absurd h
 
 class-stops : (lanes banks bank_time start r k : ℕ) (history : History) (c : Class) (s : Flat) (i : Instr) → IsQuiet (in_order lanes banks bank_time) start r history → is_service_class c ≡ false → Ends (performed_as c s i) → k ≡ r + 1 + class_fault_time c → StopsAt (in_order lanes banks bank_time) start history (footprint_as c s i) Over k
 class-stops lanes banks bank_time start r k history class.Arithmetic s i q other h e = absurd h
 class-stops lanes banks bank_time start r k history class.Branch s i q other h e = branch-stops lanes banks bank_time start r k history i (branch s i) q (omega arith) h
 class-stops lanes banks bank_time start r k history class.Store s i q other h e =
-    store-stops lanes banks bank_time start r k history i.rs1 i.rs2 0 (access_address s i) _ (permits s.memory (access_address s i) Store) _ _ _ q (omega arith) none h
+    access-stops lanes banks bank_time start r k history i.rs1 i.rs2 [] 0 (access_address s i) true _ (permits s.memory (access_address s i) Store) _ _ _ q (omega arith) none h
 class-stops lanes banks bank_time start r k history class.Ecall s i q other h e = absurd (true-false other)
-class-stops lanes banks bank_time start r k history class.Multiply s i q other h e = StopsAt-serial lanes banks bank_time start r k history Faults q (omega arith)
-class-stops lanes banks bank_time start r k history class.Divide s i q other h e = StopsAt-serial lanes banks bank_time start r k history Faults q (omega arith)
-class-stops lanes banks bank_time start r k history class.Jump s i q other h e = StopsAt-serial lanes banks bank_time start r k history Faults q (omega arith)
-class-stops lanes banks bank_time start r k history class.Load s i q other h e = StopsAt-serial lanes banks bank_time start r k history Faults q (omega arith)
-class-stops lanes banks bank_time start r k history class.Fence s i q other h e = StopsAt-serial lanes banks bank_time start r k history Faults q (omega arith)
-class-stops lanes banks bank_time start r k history class.Ebreak s i q other h e = StopsAt-serial lanes banks bank_time start r k history Faults q (omega arith)
-class-stops lanes banks bank_time start r k history class.Csr s i q other h e = StopsAt-serial lanes banks bank_time start r k history Faults q (omega arith)
+class-stops lanes banks bank_time start r k history c s i q other h e = StopsAt-serial lanes banks bank_time start r k history Faults q (omega arith)
 
 class-serves : (lanes banks bank_time start r k : ℕ) (history : History) (c : Class) (s : Flat) (i : Instr) → IsQuiet (in_order lanes banks bank_time) start r history → is_service_class c ≡ true → k ≡ r + 1 → StopsAt (in_order lanes banks bank_time) start history (footprint_as c s i) Service k
-class-serves lanes banks bank_time start r k history class.Arithmetic s i q asks e = absurd (true-false (sym asks))
-class-serves lanes banks bank_time start r k history class.Branch s i q asks e = absurd (true-false (sym asks))
-class-serves lanes banks bank_time start r k history class.Store s i q asks e = absurd (true-false (sym asks))
-class-serves lanes banks bank_time start r k history class.Multiply s i q asks e = absurd (true-false (sym asks))
-class-serves lanes banks bank_time start r k history class.Divide s i q asks e = absurd (true-false (sym asks))
-class-serves lanes banks bank_time start r k history class.Jump s i q asks e = absurd (true-false (sym asks))
-class-serves lanes banks bank_time start r k history class.Load s i q asks e = absurd (true-false (sym asks))
-class-serves lanes banks bank_time start r k history class.Fence s i q asks e = absurd (true-false (sym asks))
-class-serves lanes banks bank_time start r k history class.Ebreak s i q asks e = absurd (true-false (sym asks))
-class-serves lanes banks bank_time start r k history class.Csr s i q asks e = absurd (true-false (sym asks))
 class-serves lanes banks bank_time start r k history class.Ecall s i q asks e = StopsAt-serial lanes banks bank_time start r k history Serves q e
+class-serves lanes banks bank_time start r k history c s i q asks e = absurd (true-false (sym asks))
 
 -- what comes next
 upcoming-retires : (lanes banks bank_time start r k : ℕ) (history : History) (s : Flat) (u : Upcoming) → IsQuiet (in_order lanes banks bank_time) start r history → is_service u ≡ false → GoesOn (performed s u) → k ≡ r + 1 + retire_time u bank_time → RetiresAt (in_order lanes banks bank_time) start history (footprint_of s u) k

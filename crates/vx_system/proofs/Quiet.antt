@@ -1,7 +1,7 @@
 -- Histories in which all is done by the last retire, as those with one instruction in flight are.
 use Rattle.std.proofs.Common.{◌≡◌, ℕ, ◌+◌, ◌≤◌, max, Bool, true, false, List, [], ◌∷◌, ◌++◌, refl, sym, ap, ◌∙◌, arith}
 use Rattle.std.proofs.Math.Nat.{max-le}
-use Rattle.std.specs.Prelude.{Option, Some, None, if◌then◌else◌}
+use Rattle.std.specs.Prelude.{Option, Some, None, ◌||◌, if◌then◌else◌}
 use Rattle.std.specs.Option.{option_map_or}
 use Rattle.vx_times.specs.Cycles.{fetch_cycle, issue_cycle, complete_cycle, retire_cycle, batch_times, access_times, batch_stop_cycle}
 use Rattle.vx_times.specs.Episode.{event, pause_of}
@@ -74,8 +74,8 @@ IsQuiet-start lanes banks bank_time start =
     }
 
 -- of numbers
-issue-of : (f l c a b r : ℕ) → f ≤ r + 1 → l ≤ r → c ≤ r + 1 → a ≤ r → b ≤ r → r + 1 ≤ max (l + 1) c → max f (max (l + 1) (max c (max 0 (max a (max b 0))))) ≡ r + 1
-issue-of f l c a b r pf pl pc pa pb floor = omega arith
+issue-of : (f l c s a b r : ℕ) → f ≤ r + 1 → l ≤ r → c ≤ r + 1 → s ≤ r + 1 → a ≤ r → b ≤ r → r + 1 ≤ max (l + 1) c → max f (max (l + 1) (max c (max s (max a (max b 0))))) ≡ r + 1
+issue-of f l c s a b r pf pl pc ps pa pb floor = omega arith
 
 serial-of : (f l c t r : ℕ) → f ≤ r + 1 → l ≤ r → c ≤ r + 1 → t ≡ r → max f (max (l + 1) (max c (max (t + 1) 0))) ≡ r + 1
 serial-of f l c t r pf pl pc pt = omega arith
@@ -84,9 +84,13 @@ if-le : (b : Bool) (x y k : ℕ) → x ≤ k → y ≤ k → (if b then x else y
 if-le true x y k p q = p
 if-le false x y k p q = q
 
-if-le-sum : (turns : Bool) (issued r k : ℕ) → issued ≡ r + 1 → k ≡ r + 3 → issued + (if turns then 2 else 1) ≤ k + 1
-if-le-sum true issued r k i e = omega arith
-if-le-sum false issued r k i e = omega arith
+turns-le : (turns : Bool) (issued r k : ℕ) → issued ≡ r + 1 → r + 3 ≤ k → issued + (if turns then 2 else 1) ≤ k + 1
+turns-le true issued r k i e = omega arith
+turns-le false issued r k i e = omega arith
+
+-- the retire before, where an instruction waits for it
+waits-le : (waits : Bool) (last r : ℕ) → last ≡ r → (if waits then last + 1 else 0) ≤ r + 1
+waits-le waits last r e = if-le waits (last + 1) 0 (r + 1) (omega arith) (omega arith)
 
 ready-more : (zeroth written : Bool) (start completed rest k : ℕ) → start ≤ k → completed ≤ k → rest ≤ k → (if zeroth then start else if written then completed else rest) ≤ k
 ready-more zeroth written start completed rest k p q r = if-le zeroth start (if written then completed else rest) k p (if-le written completed rest k q r)
@@ -95,28 +99,27 @@ free-more : (same : Bool) (served bank_time k : ℕ) (rest : Option ℕ) → ser
 free-more true served bank_time k rest p q = p
 free-more false served bank_time k rest p q = q
 
--- an instruction without an access that doesn't wait for the retire before it
-abbrev pub plain : (turns : Bool) (a b : ℕ) (writes : List ℕ) → Footprint
-plain turns a b writes = record { latency = 1; turns = turns; is_serial = false; reads = a ∷ b ∷ []; writes = writes; batches = []; stop = None }
+-- an instruction without an access
+abbrev pub plain : (is_serial turns : Bool) (latency a b : ℕ) (writes : List ℕ) → Footprint
+plain is_serial turns latency a b writes = record { latency = latency; turns = turns; is_serial = is_serial; reads = a ∷ b ∷ []; writes = writes; batches = []; stop = None }
 
-issue-plain : (lanes banks bank_time start r : ℕ) (history : History) (f : Footprint) (a b : ℕ) → f.is_serial ≡ false → f.reads ≡ a ∷ b ∷ [] → IsQuiet (in_order lanes banks bank_time) start r history → issue_cycle (in_order lanes banks bank_time) start history f ≡ r + 1
-issue-plain lanes banks bank_time start r history f a b serial reads q =
-    rw serial (rw reads (issue-of _ _ _ _ _ r q.fetch q.issue q.before (q.ready a) (q.ready b) q.floor))
+issue-at : (lanes banks bank_time start r : ℕ) (history : History) (f : Footprint) (a b : ℕ) → f.reads ≡ a ∷ b ∷ [] → IsQuiet (in_order lanes banks bank_time) start r history → issue_cycle (in_order lanes banks bank_time) start history f ≡ r + 1
+issue-at lanes banks bank_time start r history f a b reads q =
+    rw reads (issue-of _ _ _ _ _ _ r q.fetch q.issue q.before (waits-le f.is_serial (last_retire start history) r q.last) (q.ready a) (q.ready b) q.floor)
 
 -- what a history keeps where an instruction without an access retires
-plain-more : (lanes banks bank_time start r issued completed retired k : ℕ) (history : History) (f : Footprint) → IsQuiet (in_order lanes banks bank_time) start r history → issued ≡ r + 1 → completed ≡ r + 2 → retired ≡ k → k ≡ r + 3 → IsQuiet (in_order lanes banks bank_time) start k (record { footprint = f; issued = issued; completed = completed; retired = retired; batches = [] } ∷ history)
+plain-more : (lanes banks bank_time start r issued completed retired k : ℕ) (history : History) (f : Footprint) → IsQuiet (in_order lanes banks bank_time) start r history → issued ≡ r + 1 → completed ≤ k → retired ≡ k → r + 3 ≤ k → IsQuiet (in_order lanes banks bank_time) start k (record { footprint = f; issued = issued; completed = completed; retired = retired; batches = [] } ∷ history)
 plain-more lanes banks bank_time start r issued completed retired k history f q i c t e =
     let from = q.from in
     let start-le : start ≤ k = omega arith in
-    let completed-le : completed ≤ k = omega arith in
     record {
       from = start-le;
       last = t;
       floor = omega arith;
       before = omega arith;
       issue = omega arith;
-      fetch = if-le-sum f.turns issued r k i e;
-      ready = λ register. ready-more _ _ start completed (register_ready start history register) k start-le completed-le (omega (arith, q.ready register));
+      fetch = turns-le f.turns issued r k i e;
+      ready = λ register. ready-more _ _ start completed (register_ready start history register) k start-le c (omega (arith, q.ready register));
       look_up = omega (arith, q.look_up);
       commit = omega (arith, q.commit);
       commit_before = omega (arith, q.commit_before);
@@ -124,27 +127,29 @@ plain-more lanes banks bank_time start r issued completed retired k history f q 
       done = omega (arith, q.done);
     }
 
-plain-completed : (i c r : ℕ) → i ≡ r + 1 → c ≡ max (i + 1) (max (i + 1) 0) → c ≡ r + 2
-plain-completed i c r p q = omega arith
+plain-completed : (i l c r : ℕ) → i ≡ r + 1 → 1 ≤ l → c ≡ max (i + l) (max (i + 1) 0) → c ≡ r + 1 + l
+plain-completed i l c r p o q = omega arith
 
-plain-retired : (l c t r k : ℕ) → l ≡ r → c ≡ r + 2 → k ≡ r + 3 → t ≡ max (l + 1) (max (c + 1) 0) → t ≡ k
-plain-retired l c t r k p q e h = omega arith
+plain-retired : (l n c t r k : ℕ) → l ≡ r → c ≡ r + 1 + n → k ≡ r + 2 + n → t ≡ max (l + 1) (max (c + 1) 0) → t ≡ k
+plain-retired l n c t r k p q e h = omega arith
 
-pub RetiresAt-plain : (lanes banks bank_time start r k : ℕ) (history : History) (turns : Bool) (a b : ℕ) (writes : List ℕ) → IsQuiet (in_order lanes banks bank_time) start r history → k ≡ r + 3 → RetiresAt (in_order lanes banks bank_time) start history (plain turns a b writes) k
-RetiresAt-plain lanes banks bank_time start r k history turns a b writes q e =
+pub RetiresAt-plain : (lanes banks bank_time start r k : ℕ) (history : History) (is_serial turns : Bool) (latency a b : ℕ) (writes : List ℕ) → IsQuiet (in_order lanes banks bank_time) start r history → 1 ≤ latency → k ≡ r + 2 + latency → RetiresAt (in_order lanes banks bank_time) start history (plain is_serial turns latency a b writes) k
+RetiresAt-plain lanes banks bank_time start r k history is_serial turns latency a b writes q some e =
     let machine = in_order lanes banks bank_time in
-    let f = plain turns a b writes in
+    let f = plain is_serial turns latency a b writes in
     let issued = issue_cycle machine start history f in
     let completed = complete_cycle issued f [] in
     let retired = retire_cycle start history completed in
-    let i : issued ≡ r + 1 = issue-plain lanes banks bank_time start r history f a b refl refl q in
-    let c : completed ≡ r + 2 = plain-completed issued completed r i refl in
-    let t : retired ≡ k = plain-retired (last_retire start history) completed retired r k q.last c e refl in
+    let i : issued ≡ r + 1 = issue-at lanes banks bank_time start r history f a b refl q in
+    let c : completed ≡ r + 1 + latency = plain-completed issued latency completed r i some refl in
+    let t : retired ≡ k = plain-retired (last_retire start history) latency completed retired r k q.last c e refl in
+    let before : completed ≤ k = omega arith in
+    let later : r + 3 ≤ k = omega arith in
     record {
       entry = record { footprint = f; issued = issued; completed = completed; retired = retired; batches = [] };
       is = refl;
       at = t;
-      quiet = plain-more lanes banks bank_time start r issued completed retired k history f q i c t e;
+      quiet = plain-more lanes banks bank_time start r issued completed retired k history f q i before t later;
     }
 
 -- an instruction that stops its episode at its issue
@@ -168,13 +173,13 @@ commit-before-more b (c ∷ batches) k h = h
 abbrev pub access_of : ℕ → ℕ → Bool → Bool → Access
 access_of element address is_store is_good = record { element = element; address = address; is_store = is_store; is_good = is_good }
 
--- a store of one access
-abbrev pub one_store : (a b : ℕ) → Access → Footprint
-one_store a b access = record { latency = 1; turns = false; is_serial = false; reads = a ∷ b ∷ []; writes = []; batches = (access ∷ []) ∷ []; stop = None }
+-- a load or a store of one access
+abbrev pub one_access : (a b : ℕ) (writes : List ℕ) → Access → Footprint
+one_access a b writes access = record { latency = 1; turns = false; is_serial = false; reads = a ∷ b ∷ []; writes = writes; batches = (access ∷ []) ∷ []; stop = None }
 
--- of numbers: a store's start, queue, serve, completion and retire
-started-of : (i u c l r s : ℕ) → i ≡ r + 1 → u ≤ r + 1 → c ≤ r + 1 → l ≡ r → s ≡ max (i + 1) (max u (max c (max (l + 1) 0))) → s ≡ r + 2
-started-of i u c l r s p q h e is = omega arith
+-- of numbers: an access's start, queue, serve, completion and retire
+started-of : (i u c w r s : ℕ) → i ≡ r + 1 → u ≤ r + 1 → c ≤ r + 1 → w ≤ r + 1 → s ≡ max (i + 1) (max u (max c (max w 0))) → s ≡ r + 2
+started-of i u c w r s p q h e is = omega arith
 
 queued-of : (s r q : ℕ) → s ≡ r + 2 → q ≡ max s 0 → q ≡ r + 2
 queued-of s r q p is = omega arith
@@ -188,9 +193,9 @@ completed-of i s v k r c p q h is = omega arith
 retired-of : (l c r k t : ℕ) → l ≡ r → c ≡ r + 3 + k → t ≡ max (l + 1) (max (c + 1) 0) → t ≡ r + 4 + k
 retired-of l c r k t p q is = omega arith
 
--- what a history keeps where a store retires
-store-more : (lanes banks bank_time start r k : ℕ) (history : History) (e : Entry) (b : BatchTimes) (a : AccessTimes) → IsQuiet (in_order lanes banks bank_time) start r history → k ≡ r + 4 + bank_time → e.batches ≡ b ∷ [] → b.accesses ≡ a ∷ [] → e.issued ≡ r + 1 → e.completed ≤ k → e.retired ≡ k → e.footprint.turns ≡ false → b.looked_up ≡ r + 2 → b.committed ≡ k → a.served ≡ r + 3 → a.done ≡ r + 3 + bank_time → IsQuiet (in_order lanes banks bank_time) start k (e ∷ history)
-store-more lanes banks bank_time start r k history e b a q is batch access issued completed retired turns looked_up committed served done =
+-- what a history keeps where an access retires
+access-more : (lanes banks bank_time start r k : ℕ) (history : History) (e : Entry) (b : BatchTimes) (a : AccessTimes) → IsQuiet (in_order lanes banks bank_time) start r history → k ≡ r + 4 + bank_time → e.batches ≡ b ∷ [] → b.accesses ≡ a ∷ [] → e.issued ≡ r + 1 → e.completed ≤ k → e.retired ≡ k → e.footprint.turns ≡ false → b.looked_up ≡ r + 2 → b.committed ≡ k → a.served ≡ r + 3 → a.done ≡ r + 3 + bank_time → IsQuiet (in_order lanes banks bank_time) start k (e ∷ history)
+access-more lanes banks bank_time start r k history e b a q is batch access issued completed retired turns looked_up committed served done =
     let from = q.from in
     let start-le : start ≤ k = omega arith in
     let free-le : a.served + bank_time ≤ k = omega arith in
@@ -209,20 +214,21 @@ store-more lanes banks bank_time start r k history e b a q is batch access issue
       done = rw batch (rw access (max-le (omega arith) (omega (arith, q.done))));
     }
 
--- a store of one access
-pub RetiresAt-store : (lanes banks bank_time start r k : ℕ) (history : History) (a b element address : ℕ) → IsQuiet (in_order lanes banks bank_time) start r history → k ≡ r + 4 + bank_time → RetiresAt (in_order lanes banks bank_time) start history (one_store a b (access_of element address true true)) k
-RetiresAt-store lanes banks bank_time start r k history a b element address q e =
+-- an access that is let through
+pub RetiresAt-access : (lanes banks bank_time start r k : ℕ) (history : History) (a b : ℕ) (writes : List ℕ) (element address : ℕ) (is_store : Bool) → IsQuiet (in_order lanes banks bank_time) start r history → k ≡ r + 4 + bank_time → RetiresAt (in_order lanes banks bank_time) start history (one_access a b writes (access_of element address is_store true)) k
+RetiresAt-access lanes banks bank_time start r k history a b writes element address is_store q e =
     let machine = in_order lanes banks bank_time in
-    let access = access_of element address true true in
-    let f = one_store a b access in
+    let access = access_of element address is_store true in
+    let f = one_access a b writes access in
     let all = batches_of history in
     let issued = issue_cycle machine start history f in
     let batch = batch_times machine start history issued [] (access ∷ []) in
     let times = access_times machine batch.started [] (accesses_of all) access in
     let completed = complete_cycle issued f (batch ∷ []) in
     let retired = retire_cycle start history completed in
-    let i : issued ≡ r + 1 = issue-plain lanes banks bank_time start r history f a b refl refl q in
-    let s : batch.started ≡ r + 2 = started-of issued (cycle_after (last_look_up all)) (cycle_after (last_but_one_commit all)) (last_retire start history) r batch.started i q.look_up q.commit_before q.last refl in
+    let i : issued ≡ r + 1 = issue-at lanes banks bank_time start r history f a b refl q in
+    let w = waits-le (is_store || false) (last_retire start history) r q.last in
+    let s : batch.started ≡ r + 2 = started-of issued (cycle_after (last_look_up all)) (cycle_after (last_but_one_commit all)) _ r batch.started i q.look_up q.commit_before w refl in
     let u : times.queued ≡ r + 2 = queued-of batch.started r times.queued s refl in
     let v : times.served ≡ r + 3 = served-of times.queued (free_from machine (accesses_of all) (bank_of machine access)) r times.served u (q.free (bank_of machine access)) refl in
     let c : completed ≡ r + 3 + bank_time = completed-of issued batch.started times.served bank_time r completed i s v refl in
@@ -234,24 +240,25 @@ RetiresAt-store lanes banks bank_time start r k history a b element address q e 
       entry = entry;
       is = refl;
       at = retired-is;
-      quiet = store-more lanes banks bank_time start r k history entry committed times q e refl refl i (omega arith) retired-is refl s retired-is v (ap (λ (n : ℕ). n + bank_time) v);
+      quiet = access-more lanes banks bank_time start r k history entry committed times q e refl refl i (omega arith) retired-is refl s retired-is v (ap (λ (n : ℕ). n + bank_time) v);
     }
 
 -- of numbers: a stop at a batch whose one access fails
 stop-of : (l s r k : ℕ) → l ≡ r → s ≡ r + 2 → k ≡ r + 2 → max (l + 1) (max s 0) ≡ k
 stop-of l s r k p q h = omega arith
 
--- a store of one access that fails
-pub StopsAt-store : (lanes banks bank_time start r k : ℕ) (history : History) (a b element address : ℕ) → IsQuiet (in_order lanes banks bank_time) start r history → k ≡ r + 2 → StopsAt (in_order lanes banks bank_time) start history (one_store a b (access_of element address true false)) Over k
-StopsAt-store lanes banks bank_time start r k history a b element address q e =
+-- an access that fails
+pub StopsAt-access : (lanes banks bank_time start r k : ℕ) (history : History) (a b : ℕ) (writes : List ℕ) (element address : ℕ) (is_store : Bool) → IsQuiet (in_order lanes banks bank_time) start r history → k ≡ r + 2 → StopsAt (in_order lanes banks bank_time) start history (one_access a b writes (access_of element address is_store false)) Over k
+StopsAt-access lanes banks bank_time start r k history a b writes element address is_store q e =
     let machine = in_order lanes banks bank_time in
-    let access = access_of element address true false in
-    let f = one_store a b access in
+    let access = access_of element address is_store false in
+    let f = one_access a b writes access in
     let all = batches_of history in
     let issued = issue_cycle machine start history f in
     let batch = batch_times machine start history issued [] (access ∷ []) in
-    let i : issued ≡ r + 1 = issue-plain lanes banks bank_time start r history f a b refl refl q in
-    let s : batch.started ≡ r + 2 = started-of issued (cycle_after (last_look_up all)) (cycle_after (last_but_one_commit all)) (last_retire start history) r batch.started i q.look_up q.commit_before q.last refl in
+    let i : issued ≡ r + 1 = issue-at lanes banks bank_time start r history f a b refl q in
+    let w = waits-le (is_store || false) (last_retire start history) r q.last in
+    let s : batch.started ≡ r + 2 = started-of issued (cycle_after (last_look_up all)) (cycle_after (last_but_one_commit all)) _ r batch.started i q.look_up q.commit_before w refl in
     let l : batch_stop_cycle start history element (batch ∷ []) ≡ k = stop-of (last_retire start history) batch.started r k q.last s e in
     record {
       batches = batch ∷ [];

@@ -61,8 +61,9 @@ abbrev pub queued_accesses : Organisation → (started : ℕ) → (lower earlier
 queued_accesses machine started lower earlier [] = lower
 queued_accesses machine started lower earlier (access ∷ accesses) =
     elim (access.is_good) [
-      true ↦ queued_accesses machine started (access_times machine started lower earlier access ∷ lower) earlier accesses
-    | false ↦ lower ]
+      | true ↦ queued_accesses machine started (access_times machine started lower earlier access ∷ lower) earlier accesses
+      | false ↦ lower
+    ]
 
 -- commit of a batch that isn't the last: behind the retire before, once the look-ups of the instruction's batches up to it
 -- have ended and their accesses are done
@@ -89,8 +90,9 @@ all_batches machine start history issued batches [] = batches
 all_batches machine start history issued batches (batch ∷ rest) =
     let these = batch_times machine start history issued batches batch ∷ batches in
     elim (list_all (λ (a : Access). a.is_good) batch) [
-      true ↦ all_batches machine start history issued these rest
-    | false ↦ these ]
+      | true ↦ all_batches machine start history issued these rest
+      | false ↦ these
+    ]
 
 -- generation: the end of the last batch's look-ups, or the cycle behind the issue
 abbrev pub generation_cycle : (issued : ℕ) → List BatchTimes → ℕ

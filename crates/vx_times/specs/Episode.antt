@@ -30,14 +30,15 @@ accessing machine start history issued f =
     let completed = complete_cycle issued f batches in
     let retired = retire_cycle start history completed in
     elim (has_failing f.batches) [
-      true ↦ Stops Over (batch_stop_cycle start history (failing_element (flat_map (λ (b : List Access). b) f.batches)) batches) batches
-    | false ↦ Retires (record {
+      | true ↦ Stops Over (batch_stop_cycle start history (failing_element (flat_map (λ (b : List Access). b) f.batches)) batches) batches
+      | false ↦ Retires (record {
         footprint = f;
         issued = issued;
         completed = completed;
         retired = retired;
         batches = retired_batches retired batches;
-      }) ]
+      })
+    ]
 
 abbrev pub event : Organisation → ℕ → History → Footprint → Event
 event machine start history f =
@@ -65,10 +66,12 @@ unfoldable pub run_on : Organisation → (start until bound : ℕ) → History �
 run_on machine start until zero history p = ended history Slice until [] p
 run_on machine start until (suc bound) history p =
     elim (event machine start history (footprint p.state)) [
-      Stops pause last batches ↦ ended history pause last batches (process_at pause p)
-    | Retires entry ↦ elim (nat_le until entry.retired) [
-        true ↦ ended (entry ∷ history) Slice entry.retired [] (stepped p)
-      | false ↦ run_on machine start until bound (entry ∷ history) (stepped p) ] ]
+      | Stops pause last batches ↦ ended history pause last batches (process_at pause p)
+      | Retires entry ↦ elim (nat_le until entry.retired) [
+        | true ↦ ended (entry ∷ history) Slice entry.retired [] (stepped p)
+        | false ↦ run_on machine start until bound (entry ∷ history) (stepped p)
+      ]
+    ]
 
 -- an episode of a process from a cycle on
 abbrev pub episode : Organisation → (start until : ℕ) → Process → EpisodeEnd
