@@ -1,16 +1,93 @@
 -- The words of the command line and what they ask for; the program's name isn't among them. This project's own.
-use Rattle.std.specs.Prelude.{◌≡◌, ℕ, ◌<◌, List, [], ◌∷◌, ◌++◌, length, codes}
+use Rattle.std.specs.Prelude.{◌≡◌, ℕ, ◌+◌, ◌^◌, ◌<◌, ◌≤◌, Bool, true, false, ◌⊎◌, List, [], ◌∷◌, ◌++◌, length, take, Option, Some, None, if◌then◌else◌, codes, decimal}
+
+-- the options, each of which takes a number
+pub data OptionName : Type 0 where
+  Window : OptionName
+  Lanes : OptionName
+  Budget : OptionName
+
+-- the word of an option, and the least and the greatest number that it takes
+pub record OptionRow : Type 0 where
+  pub word : List ℕ
+  pub least : ℕ
+  pub greatest : ℕ
+
+abbrev pub row_of : OptionName → OptionRow
+row_of Window = record { word = codes "--window"; least = 1; greatest = 1 }
+row_of Lanes = record { word = codes "--lanes"; least = 1; greatest = 1 }
+row_of Budget = record { word = codes "--budget"; least = 1; greatest = 2 ^ 40 }
+
+abbrev pub is_same : OptionName → OptionName → Bool
+is_same Window Window = true
+is_same Lanes Lanes = true
+is_same Budget Budget = true
+is_same one other = false
+
+-- an option and the number that it is given
+pub record Given : Type 0 where
+  pub option : OptionName
+  pub number : ℕ
+
+-- the number that an option is given, where it is given one
+abbrev pub given_number : OptionName → List Given → Option ℕ
+given_number option [] = None
+given_number option (given ∷ givens) = if is_same given.option option then Some given.number else given_number option givens
+
+-- the number is in the option's range
+abbrev pub IsInRange : Given → Type 0
+IsInRange given = ((row_of given.option).least ≤ given.number) × (given.number ≤ (row_of given.option).greatest)
+
+-- the words are the option and its number: two words, or one. A number is its decimal digits, without a leading zero.
+abbrev pub Spell : List (List ℕ) → Given → Type 0
+Spell words given =
+    (words ≡ (row_of given.option).word ∷ decimal given.number ∷ [])
+    ⊎ (words ≡ ((row_of given.option).word ++ codes "=" ++ decimal given.number) ∷ [])
+
+-- the words are options with their numbers, one after another, and no option is given twice
+abbrev pub SpellAll : List (List ℕ) → List Given → Type 0
+SpellAll words [] = words ≡ []
+SpellAll words (given ∷ givens) =
+    (option : List (List ℕ))
+    × (rest : List (List ℕ))
+    × (words ≡ option ++ rest)
+    × Spell option given
+    × IsInRange given
+    × (given_number given.option givens ≡ None)
+    × SpellAll rest givens
 
 pub data Command : Type 0 where
-  -- run the raw image of this name
-  Run : (name : List ℕ) → Command
+  -- run the raw image of this name under these options
+  Run : (givens : List Given) (name : List ℕ) → Command
+
+-- the word is the raw image of this name
+abbrev pub IsRawImage : List ℕ → List ℕ → Type 0
+IsRawImage word name = (0 < length name) × (word ≡ codes "raw:" ++ name)
 
 -- the words ask for the command
 abbrev pub AskFor : List (List ℕ) → Command → Type 0
-AskFor words (Run name) =
-    (0 < length name)
-    × (words ≡ codes "run" ∷ codes "--window" ∷ codes "1" ∷ codes "--lanes" ∷ codes "1" ∷ (codes "raw:" ++ name) ∷ [])
+AskFor words (Run givens name) =
+    (options : List (List ℕ))
+    × (image : List ℕ)
+    × (words ≡ codes "run" ∷ (options ++ image ∷ []))
+    × SpellAll options givens
+    × IsRawImage image name
+
+-- the words ask for a command on the file of this name
+abbrev pub AskForFile : List (List ℕ) → List ℕ → Type 0
+AskForFile words name = (givens : List Given) × AskFor words (Run givens name)
 
 -- the words ask for no command
 abbrev pub AreOutside : List (List ℕ) → Type 0
 AreOutside words = (command : Command) → AskFor words command → ⊥
+
+-- the words begin some that ask for a command
+abbrev pub AreBegun : List (List ℕ) → Type 0
+AreBegun words = (rest : List (List ℕ)) × (command : Command) × AskFor (words ++ rest) command
+
+-- the words before this index begin a command, and with the word at it they begin none; where all of them begin one, the
+-- index is their number
+pub record IsFirstBad (words : List (List ℕ)) (index : ℕ) : Type 0 where
+  pub begun : AreBegun (take index words)
+  pub within : index ≤ length words
+  pub bad : index < length words → AreBegun (take (index + 1) words) → ⊥
