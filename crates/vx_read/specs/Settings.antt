@@ -1,0 +1,10 @@
+-- The options, as the program names them. This project's own.
+use Rattle.vx_words.specs.Words.{OptionName}
+use Rattle.vx_words.specs.Words.OptionName.{Window as WindowOption, Lanes as LanesOption, Budget as BudgetOption}
+use Rattle.vx_read.specs.declared.settings.Setting.{Setting}
+use Rattle.vx_read.specs.declared.settings.Setting.TheVariants.{Window, Lanes, Budget}
+
+abbrev pub option_of : Setting → OptionName
+option_of Window = WindowOption
+option_of Lanes = LanesOption
+option_of Budget = BudgetOption
