@@ -1,2 +1,4 @@
 pub mod Settings
+pub mod Numbers
 pub mod Forms
+pub mod Behind

@@ -7,4 +7,5 @@
 
 mod digits;
 mod forms;
+mod numbers;
 mod settings;

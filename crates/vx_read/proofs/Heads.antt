@@ -1,0 +1,175 @@
+-- What options and an image begin with, by their first word.
+use Rattle.std.proofs.Common.{◌≡◌, ℕ, ◌+◌, ◌^◌, ◌<◌, ◌≤◌, ◌⊎◌, List, [], ◌∷◌, ◌++◌, length, Option, Some, None, decimal, refl, sym, ap, subst, ◌∙◌, inl, inr, ⊎_elim, append_assoc, arith}
+use Rattle.std.specs.Prelude.{codes}
+use Rattle.std.proofs.lemmas.Fmt.{decimal_injective}
+use Rattle.vx_words.specs.Words.{OptionName, Given, row_of, given_number, IsInRange, Spell, SpellAll, IsRawImage, AskFor}
+use Rattle.vx_words.specs.Words.OptionName.{Window, Lanes, Budget}
+use Rattle.vx_words.specs.Words.Command.{Run}
+use Rattle.vx_read.specs.Forms.{IsBoth, HasNoForm}
+use Rattle.vx_read.specs.Behind.{SpellBefore, AreOptionsAndImage}
+use Rattle.vx_read.proofs.Spellings.{name_is_name, name_is_not_both, both_is_both, image_is_not_name, image_is_not_both, image_is_image}
+
+-- options and an image, as the grammar has them
+of_options : (options : List (List ℕ)) (givens : List Given) (image name : List ℕ) → SpellAll options givens → IsRawImage image name → AreOptionsAndImage (options ++ image ∷ []) givens name
+of_options options [] image name none raw = (image, rw none refl, raw)
+of_options options (given ∷ givens) image name all raw =
+    let e : options ++ image ∷ [] ≡ all.0 ++ (all.1 ++ image ∷ []) = rw (all.2, append_assoc) in
+    (all.1 ++ image ∷ [], (all.0, e, all.3), all.4, all.5, of_options all.1 givens image name all.6 raw)
+
+abbrev InGrammar : List (List ℕ) → List Given → List ℕ → Type 0
+InGrammar words givens name = (options : List (List ℕ)) × (image : List ℕ) × (words ≡ options ++ image ∷ []) × SpellAll options givens × IsRawImage image name
+
+joined : (words item rest options : List (List ℕ)) (image : List ℕ) → words ≡ item ++ rest → rest ≡ options ++ image ∷ [] → words ≡ (item ++ options) ++ image ∷ []
+joined words item rest options image front back = rw (front, back, append_assoc)
+
+in_grammar : (words : List (List ℕ)) (givens : List Given) (name : List ℕ) → AreOptionsAndImage words givens name → InGrammar words givens name
+in_grammar words [] name t = ([], t.0, t.1, refl, t.2)
+in_grammar words (given ∷ givens) name t =
+    let more = in_grammar t.0 givens name t.4 in
+    (t.1.0 ++ more.0, more.1, joined words t.1.0 t.0 more.0 more.1 t.1.1 more.2, (t.1.0, more.0, refl, t.1.2, t.2, t.3, more.3), more.4)
+
+-- behind `run`
+pub asks : (words : List (List ℕ)) (givens : List Given) (name : List ℕ) → AreOptionsAndImage words givens name → AskFor (codes "run" ∷ words) (Run givens name)
+asks words givens name t = let g = in_grammar words givens name t in (g.0, g.1, ap (λ rest. codes "run" ∷ rest) g.2, g.3, g.4)
+
+pub asked : (words : List (List ℕ)) (givens : List Given) (name : List ℕ) → AskFor (codes "run" ∷ words) (Run givens name) → AreOptionsAndImage words givens name
+asked words givens name asks =
+    let e : words ≡ asks.0 ++ asks.1 ∷ [] = cc in
+    rw e (of_options asks.0 givens asks.1 name asks.3 asks.4)
+
+-- an image ends the words
+pub record IsEnd (name : List ℕ) (rest : List (List ℕ)) (givens : List Given) (asked : List ℕ) : Type 0 where
+  pub no_words : rest ≡ []
+  pub no_givens : givens ≡ []
+  pub same_name : asked ≡ name
+
+-- an option's word is followed by its number
+pub record IsNamed (option : OptionName) (words : List (List ℕ)) (givens : List Given) (name : List ℕ) : Type 0 where
+  pub given : Given
+  pub later : List Given
+  pub rest : List (List ℕ)
+  pub givens_are : givens ≡ given ∷ later
+  pub option_is : given.option ≡ option
+  pub words_are : words ≡ decimal given.number ∷ rest
+  pub in_range : IsInRange given
+  pub once : given_number given.option later ≡ None
+  pub asked : AreOptionsAndImage rest later name
+
+-- an option's word with a text is that of its number
+pub record IsBothGiven (option : OptionName) (text : List ℕ) (words : List (List ℕ)) (givens : List Given) (name : List ℕ) : Type 0 where
+  pub given : Given
+  pub later : List Given
+  pub givens_are : givens ≡ given ∷ later
+  pub option_is : given.option ≡ option
+  pub text_is : text ≡ decimal given.number
+  pub in_range : IsInRange given
+  pub once : given_number given.option later ≡ None
+  pub asked : AreOptionsAndImage words later name
+
+-- how a spelled option stands at the front of words
+by_spelling : (word : List ℕ) (words : List (List ℕ)) (given : Given) (rest : List (List ℕ)) → SpellBefore (word ∷ words) given rest
+    → ((word ≡ (row_of given.option).word) × (words ≡ decimal given.number ∷ rest)) ⊎ (IsBoth word given.option (decimal given.number) × (words ≡ rest))
+by_spelling word words given rest spelled =
+    ⊎_elim
+        (λ (two : spelled.0 ≡ (row_of given.option).word ∷ decimal given.number ∷ []).
+            let e : word ∷ words ≡ (row_of given.option).word ∷ decimal given.number ∷ rest = spelled.1 ∙ ap (λ item. item ++ rest) two in
+            inl (cc, cc))
+        (λ (one : spelled.0 ≡ ((row_of given.option).word ++ codes "=" ++ decimal given.number) ∷ []).
+            let e : word ∷ words ≡ ((row_of given.option).word ++ codes "=" ++ decimal given.number) ∷ rest = spelled.1 ∙ ap (λ item. item ++ rest) one in
+            inr (cc, cc))
+        spelled.2
+
+pub image_head : (word : List ℕ) (rest : List (List ℕ)) (givens : List Given) (name asked : List ℕ) → IsRawImage word name → AreOptionsAndImage (word ∷ rest) givens asked → IsEnd name rest givens asked
+image_head word rest [] name asked raw t =
+    let e = t.1 in
+    let image : t.0 ≡ word = cc in
+    let Raw : List ℕ → Type 0 = λ w. IsRawImage w asked in
+    record { no_words = cc; no_givens = refl; same_name = image_is_image word asked name (subst Raw image t.2) raw }
+image_head word rest (given ∷ givens) name asked raw t =
+    ⊎_elim
+        (λ n. absurd (image_is_not_name word name given.option raw n.0))
+        (λ b. absurd (image_is_not_both word name (decimal given.number) given.option raw b.0))
+        (by_spelling word rest given t.0 t.1)
+
+pub name_head : (word : List ℕ) (words : List (List ℕ)) (givens : List Given) (name : List ℕ) (option : OptionName) → word ≡ (row_of option).word → AreOptionsAndImage (word ∷ words) givens name → IsNamed option words givens name
+name_head word words [] name option is t =
+    let e = t.1 in
+    let image : t.0 ≡ word = cc in
+    let Raw : List ℕ → Type 0 = λ w. IsRawImage w name in
+    absurd (image_is_not_name word name option (subst Raw image t.2) is)
+name_head word words (given ∷ givens) name option is t =
+    ⊎_elim
+        (λ n. record { given = given; later = givens; rest = t.0; givens_are = refl; option_is = name_is_name word given.option option n.0 is; words_are = n.1; in_range = t.2; once = t.3; asked = t.4 })
+        (λ b. absurd (name_is_not_both word option given.option (decimal given.number) is b.0))
+        (by_spelling word words given t.0 t.1)
+
+pub both_head : (word : List ℕ) (words : List (List ℕ)) (givens : List Given) (name : List ℕ) (option : OptionName) (text : List ℕ) → IsBoth word option text → AreOptionsAndImage (word ∷ words) givens name → IsBothGiven option text words givens name
+both_head word words [] name option text is t =
+    let e = t.1 in
+    let image : t.0 ≡ word = cc in
+    let Raw : List ℕ → Type 0 = λ w. IsRawImage w name in
+    absurd (image_is_not_both word name text option (subst Raw image t.2) is)
+both_head word words (given ∷ givens) name option text is t =
+    let Asked : List (List ℕ) → Type 0 = λ rest. AreOptionsAndImage rest givens name in
+    ⊎_elim
+        (λ n. absurd (name_is_not_both word given.option option text n.0 is))
+        (λ b. let same = both_is_both word given.option option (decimal given.number) text b.0 is in
+            record { given = given; later = givens; givens_are = refl; option_is = same.0; text_is = sym same.1; in_range = t.2; once = t.3; asked = subst Asked (sym b.1) t.4 })
+        (by_spelling word words given t.0 t.1)
+
+pub no_head : (word : List ℕ) (words : List (List ℕ)) (givens : List Given) (name : List ℕ) → HasNoForm word → AreOptionsAndImage (word ∷ words) givens name → ⊥
+no_head word words [] name none t =
+    let e = t.1 in
+    let image : t.0 ≡ word = cc in
+    let Raw : List ℕ → Type 0 = λ w. IsRawImage w name in
+    none.no_image name (subst Raw image t.2)
+no_head word words (given ∷ givens) name none t =
+    ⊎_elim
+        (λ n. none.no_name given.option n.0)
+        (λ b. none.no_both given.option (decimal given.number) b.0)
+        (by_spelling word words given t.0 t.1)
+
+-- numbers in range are below 2^64, so that their digits tell them apart
+small_in : (option : OptionName) (n : ℕ) → n ≤ (row_of option).greatest → n < 2 ^ 64
+small_in Window n h = omega arith
+small_in Lanes n h = omega arith
+small_in Budget n h = omega arith
+
+pub small : (given : Given) → IsInRange given → given.number < 2 ^ 64
+small given h = small_in given.option given.number h.1
+
+same_given : (one other : Given) → one.option ≡ other.option → one.number ≡ other.number → one ≡ other
+same_given one other options numbers =
+    let make : OptionName → ℕ → Given = λ o n. record { option = o; number = n } in
+    ap (λ o. make o one.number) options ∙ ap (λ n. make other.option n) numbers
+
+-- the words behind a spelled option are those that are left
+pub record IsGivenFirst (given : Given) (words : List (List ℕ)) (givens : List Given) (name : List ℕ) : Type 0 where
+  pub later : List Given
+  pub givens_are : givens ≡ given ∷ later
+  pub once : given_number given.option later ≡ None
+  pub asked : AreOptionsAndImage words later name
+
+first_is : (given found : Given) (words rest : List (List ℕ)) (givens later : List Given) (name : List ℕ) → found.option ≡ given.option → IsInRange given → IsInRange found → decimal given.number ≡ decimal found.number
+    → words ≡ rest → givens ≡ found ∷ later → given_number found.option later ≡ None → AreOptionsAndImage rest later name → IsGivenFirst given words givens name
+first_is given found words rest givens later name options given_range found_range digits same are once asked =
+    let numbers = decimal_injective given.number found.number (small given given_range) (small found found_range) digits in
+    let e = same_given found given options (sym numbers) in
+    let Once : OptionName → Type 0 = λ o. given_number o later ≡ None in
+    let Asked : List (List ℕ) → Type 0 = λ w. AreOptionsAndImage w later name in
+    record { later = later; givens_are = are ∙ ap (λ g. g ∷ later) e; once = subst Once options once; asked = subst Asked (sym same) asked }
+
+pub spelled_head : (words : List (List ℕ)) (given : Given) (rest : List (List ℕ)) (givens : List Given) (name : List ℕ) → SpellBefore words given rest → IsInRange given → AreOptionsAndImage words givens name → IsGivenFirst given rest givens name
+spelled_head words given rest givens name spelled in_range asked =
+    let Asked : List (List ℕ) → Type 0 = λ w. AreOptionsAndImage w givens name in
+    ⊎_elim
+        (λ (two : spelled.0 ≡ (row_of given.option).word ∷ decimal given.number ∷ []).
+            let e : words ≡ (row_of given.option).word ∷ decimal given.number ∷ rest = spelled.1 ∙ ap (λ item. item ++ rest) two in
+            let h = name_head (row_of given.option).word (decimal given.number ∷ rest) givens name given.option refl (subst Asked e asked) in
+            let are = h.words_are in
+            first_is given h.given rest h.rest givens h.later name h.option_is in_range h.in_range (cc) (cc) h.givens_are h.once h.asked)
+        (λ (one : spelled.0 ≡ ((row_of given.option).word ++ codes "=" ++ decimal given.number) ∷ []).
+            let e : words ≡ ((row_of given.option).word ++ codes "=" ++ decimal given.number) ∷ rest = spelled.1 ∙ ap (λ item. item ++ rest) one in
+            let h = both_head ((row_of given.option).word ++ codes "=" ++ decimal given.number) rest givens name given.option (decimal given.number) refl (subst Asked e asked) in
+            first_is given h.given rest rest givens h.later name h.option_is in_range h.in_range h.text_is refl h.givens_are h.once h.asked)
+        spelled.2

@@ -1,0 +1,56 @@
+-- Words behind those that are read already: what they ask for, and what is wrong with them, given the numbers so far.
+-- This project's own.
+use Rattle.std.specs.Prelude.{◌≡◌, ℕ, ◌+◌, ◌<◌, ◌≤◌, Bool, List, [], ◌∷◌, ◌++◌, length, take, map, Option, Some, None, if◌then◌else◌, string_bytes}
+use Rattle.vx_words.specs.Words.{OptionName, Given, given_number, is_same, IsInRange, Spell, IsRawImage}
+use Rattle.vx_read.specs.declared.numbers.Numbers.{Numbers}
+use Rattle.vx_read.specs.Numbers.{number_in}
+
+-- the words begin with the option and its number, and these are behind them
+abbrev pub SpellBefore : List (List ℕ) → Given → List (List ℕ) → Type 0
+SpellBefore words given rest = (item : List (List ℕ)) × (words ≡ item ++ rest) × Spell item given
+
+-- the words are options with their numbers, none given twice, and one raw image of this name
+abbrev pub AreOptionsAndImage : List (List ℕ) → List Given → List ℕ → Type 0
+AreOptionsAndImage words [] name = (image : List ℕ) × (words ≡ image ∷ []) × IsRawImage image name
+AreOptionsAndImage words (given ∷ givens) name =
+    (rest : List (List ℕ))
+    × SpellBefore words given rest
+    × IsInRange given
+    × (given_number given.option givens ≡ None)
+    × AreOptionsAndImage rest givens name
+
+-- no option that has a number is given another
+abbrev pub AreNew : Numbers → List Given → Type 0
+AreNew numbers givens = (option : OptionName) (number : ℕ) → number_in option numbers ≡ Some number → given_number option givens ≡ None
+
+-- the numbers after are those before, and this one
+abbrev pub AreWith : Numbers → Given → Numbers → Type 0
+AreWith before given after =
+    (option : OptionName) → number_in option after ≡ (if is_same given.option option then Some given.number else number_in option before)
+
+-- the words begin some that may follow these numbers
+pub record AreBegunBehind (numbers : Numbers) (words : List (List ℕ)) : Type 0 where
+  pub rest : List (List ℕ)
+  pub givens : List Given
+  pub name : List ℕ
+  pub asked : AreOptionsAndImage (words ++ rest) givens name
+  pub new : AreNew numbers givens
+
+-- the words may not follow these numbers, and this is the index of the first bad one
+pub record AreBadBehind (numbers : Numbers) (words : List (List ℕ)) (index : ℕ) : Type 0 where
+  pub outside : (givens : List Given) (name : List ℕ) → AreOptionsAndImage words givens name → AreNew numbers givens → ⊥
+  pub begun : AreBegunBehind numbers (take index words)
+  pub within : index ≤ length words
+  pub bad : index < length words → AreBegunBehind numbers (take (index + 1) words) → ⊥
+
+-- the first number where there is one, or else the second
+abbrev pub either : Option ℕ → Option ℕ → Option ℕ
+either (Some number) other = Some number
+either None other = other
+
+-- the words follow these numbers, ask for the image of this name, and leave these numbers in all
+pub record AreReadBehind (before after : Numbers) (words : List (List ℕ)) (name : List ℕ) : Type 0 where
+  pub givens : List Given
+  pub asked : AreOptionsAndImage words givens name
+  pub new : AreNew before givens
+  pub numbers : (option : OptionName) → number_in option after ≡ either (number_in option before) (given_number option givens)

@@ -1,0 +1,59 @@
+ghost use Rattle.std.specs.Prelude.{◌≡◌, ◌≤◌, Option, Some, None, is_some, if◌then◌else◌};
+ghost use Rattle.vx_words.specs.Words.{OptionName, row_of, is_same};
+ghost use Rattle.vx_read.specs.Settings.{option_of};
+ghost use Rattle.vx_read.specs.Numbers.{number_in, nothing};
+
+use crate::settings::Setting;
+
+/// The numbers that options were given so far.
+#[derive(Clone, Copy)]
+pub struct Numbers {
+    pub window: Option<u32>,
+    pub lanes: Option<u32>,
+    pub budget: Option<u64>,
+}
+
+impl Numbers {
+    /// No option was given a number.
+    pub fn none() -> Numbers
+        ensures { result ≡ nothing }
+    {
+        Numbers {
+            window: None,
+            lanes: None,
+            budget: None,
+        }
+    }
+
+    /// Whether the option was given a number.
+    pub fn has(&self, setting: Setting) -> bool
+        ensures { result ≡ is_some (number_in (option_of setting) self.now) }
+    {
+        match setting {
+            Setting::Window => self.window.is_some(),
+            Setting::Lanes => self.lanes.is_some(),
+            Setting::Budget => self.budget.is_some(),
+        }
+    }
+
+    /// These numbers, and this one for the option.
+    pub fn with(self, setting: Setting, number: u64) -> Numbers
+        requires { number ≤ (row_of (option_of setting)).greatest }
+        ensures { (option : OptionName) → number_in option result ≡ (if is_same (option_of setting) option then Some number else number_in option self) }
+    {
+        match setting {
+            Setting::Window => Numbers {
+                window: Some(number as u32),
+                ..self
+            },
+            Setting::Lanes => Numbers {
+                lanes: Some(number as u32),
+                ..self
+            },
+            Setting::Budget => Numbers {
+                budget: Some(number),
+                ..self
+            },
+        }
+    }
+}
