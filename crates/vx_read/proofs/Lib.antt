@@ -1,3 +1,5 @@
 pub mod Decimals
 pub mod Spellings
 pub mod Heads
+pub mod Onward
+pub mod First

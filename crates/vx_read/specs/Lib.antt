@@ -2,3 +2,4 @@ pub mod Settings
 pub mod Numbers
 pub mod Forms
 pub mod Behind
+pub mod Fronts

@@ -1,5 +1,9 @@
 ghost use Rattle.std.specs.Prelude.{◌≡◌, ◌≢◌, ℕ, ◌<◌, ◌^◌, length, slice_index, IsTrue, MatchOption, decimal};
 ghost use Rattle.std.specs.Bool.{OnTrue, OnFalse};
+ghost use Rattle.vx_words.specs.Words.{IsInRange};
+ghost use Rattle.vx_read.specs.Settings.{given_to};
+
+use crate::settings::Setting;
 
 /// Whether the text may be a number's decimal digits, by its first byte: there is one, no `+`, and no zero before more.
 fn begins_as_number(text: &[u8]) -> bool
@@ -30,4 +34,20 @@ pub fn number(text: &str) -> Option<u64>
         Ok(number) => Some(number),
         Err(_) => None,
     }
+}
+
+/// The number in the option's range whose decimal digits, without a leading zero, the text is.
+pub fn number_for(setting: Setting, text: &str) -> Option<u64>
+    ensures { MatchOption result ((number : ℕ) → IsInRange (given_to setting number) → text.now ≡ decimal number → ⊥) (λ number. IsInRange (given_to setting number) × (text.now ≡ decimal number)) }
+{
+    let Some(number) = number(text) else {
+        return None;
+    };
+    if number < setting.least() {
+        return None;
+    }
+    if setting.greatest() < number {
+        return None;
+    }
+    Some(number)
 }

@@ -7,5 +7,6 @@
 
 mod digits;
 mod forms;
+mod fronts;
 mod numbers;
 mod settings;

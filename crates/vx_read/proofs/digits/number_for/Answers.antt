@@ -1,0 +1,18 @@
+use Rattle.std.proofs.Common.{◌≡◌, sym, ◌∙◌, arith}
+use Rattle.std.proofs.lemmas.Fmt.{decimal_injective}
+use Rattle.vx_read.specs.Settings.{given_to}
+use Rattle.vx_read.proofs.Heads.{small}
+use Rattle.vx_read.proofs.digits.number_for.Goals as goal
+
+pub returns-in_default : goal.returns-in_default
+returns-in_default c = λ number in_range is. c.in_default.ensures number (small (given_to c.args.setting number) in_range) is
+
+pub returns-then-number-least : goal.returns-then-number-least
+returns-then-number-least c = λ number in_range is.
+    let same : number ≡ c.in-Some.number = decimal_injective number c.in-Some.number (small (given_to c.args.setting number) in_range) (omega arith) (sym is ∙ c.in-Some.ensures) in
+    absurd (omega (arith, in_range.0))
+
+pub returns-then-greatest-number : goal.returns-then-greatest-number
+returns-then-greatest-number c = λ number in_range is.
+    let same : number ≡ c.in-Some.number = decimal_injective number c.in-Some.number (small (given_to c.args.setting number) in_range) (omega arith) (sym is ∙ c.in-Some.ensures) in
+    absurd (omega (arith, in_range.1))

@@ -1,0 +1,9 @@
+use Rattle.std.proofs.Common.{map, string_bytes}
+use Rattle.vx_read.proofs.First.{bad_none, bad_form}
+use Rattle.vx_read.proofs.fronts.front_of.Goals as goal
+
+pub returns-in_default : goal.returns-in_default
+returns-in_default c = rw c.in_default.ensures (bad_none c.args.numbers.now)
+
+pub returns-in-Other : goal.returns-in-Other
+returns-in-Other c = rw c.in-Some.ensures (bad_form c.args.numbers.now c.in-Some.word.now (map string_bytes c.in-Some.rest.now) c.in-Other.ensures)

@@ -1,0 +1,86 @@
+ghost use Rattle.std.specs.Prelude.{◌≡◌, ℕ, List, [], ◌∷◌, map, MatchOption, string_bytes};
+ghost use Rattle.vx_words.specs.Words.{row_of, IsRawImage};
+ghost use Rattle.vx_read.specs.Settings.{option_of};
+ghost use Rattle.vx_read.specs.Forms.{IsBoth};
+ghost use Rattle.vx_read.specs.Fronts.{IsFront};
+
+use crate::digits::number_for;
+use crate::forms::{Form, form_of};
+use crate::numbers::Numbers;
+use crate::settings::Setting;
+
+/// What stands first in the words behind those that are read.
+#[derive(Clone, Copy)]
+pub enum Front<'a> {
+    /// An option, its number, and the words behind them.
+    Given(Setting, u64, &'a [String]),
+    /// The raw image of this name, which ends the words.
+    Image(&'a str),
+    /// Nothing that may stand there: the index of the first bad word.
+    Bad(usize),
+}
+
+/// The first word, and those behind it.
+pub fn first_word<'a>(words: &'a [String]) -> Option<(&'a str, &'a [String])>
+    ensures { MatchOption result (map string_bytes words.now ≡ []) (λ parts. map string_bytes words.now ≡ parts.0.now ∷ map string_bytes parts.1.now) }
+{
+    let Some((word, rest)) = words.split_first() else {
+        return None;
+    };
+    Some((word.as_str(), rest))
+}
+
+/// What stands first in the words, behind those that gave these numbers.
+pub fn front_of<'a>(words: &'a [String], numbers: &Numbers) -> Front<'a>
+    ensures { IsFront numbers.now (map string_bytes words.now) result }
+{
+    let Some((word, rest)) = first_word(words) else {
+        return Front::Bad(0);
+    };
+    match form_of(word) {
+        Form::Image(name) => image_front(name, rest, numbers),
+        Form::Name(setting) => name_front(setting, rest, numbers),
+        Form::Both(setting, text) => both_front(setting, text, rest, numbers),
+        Form::Other => Front::Bad(0),
+    }
+}
+
+/// What stands first where that is the image of this name, and these words are behind it.
+fn image_front<'a>(name: &'a str, rest: &'a [String], numbers: &Numbers) -> Front<'a>
+    ensures { (word : List ℕ) → IsRawImage word name.now → IsFront numbers.now (word ∷ map string_bytes rest.now) result }
+{
+    if rest.is_empty() {
+        Front::Image(name)
+    } else {
+        Front::Bad(1)
+    }
+}
+
+/// What stands first where that is the option's word, and these words are behind it.
+fn name_front<'a>(setting: Setting, rest: &'a [String], numbers: &Numbers) -> Front<'a>
+    ensures { (word : List ℕ) → word ≡ (row_of (option_of setting)).word → IsFront numbers.now (word ∷ map string_bytes rest.now) result }
+{
+    if numbers.has(setting) {
+        return Front::Bad(0);
+    }
+    let Some((text, behind)) = first_word(rest) else {
+        return Front::Bad(1);
+    };
+    match number_for(setting, text) {
+        Some(number) => Front::Given(setting, number, behind),
+        None => Front::Bad(1),
+    }
+}
+
+/// What stands first where that is the option's word with this text, and these words are behind it.
+fn both_front<'a>(setting: Setting, text: &str, rest: &'a [String], numbers: &Numbers) -> Front<'a>
+    ensures { (word : List ℕ) → IsBoth word (option_of setting) text.now → IsFront numbers.now (word ∷ map string_bytes rest.now) result }
+{
+    if numbers.has(setting) {
+        return Front::Bad(0);
+    }
+    match number_for(setting, text) {
+        Some(number) => Front::Given(setting, number, rest),
+        None => Front::Bad(0),
+    }
+}
