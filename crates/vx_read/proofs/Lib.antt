@@ -3,3 +3,5 @@ pub mod Spellings
 pub mod Heads
 pub mod Onward
 pub mod First
+pub mod Leads
+pub mod Whole

@@ -3,3 +3,4 @@ pub mod Numbers
 pub mod Forms
 pub mod Behind
 pub mod Fronts
+pub mod Read

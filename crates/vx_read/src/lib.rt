@@ -8,5 +8,12 @@
 mod digits;
 mod forms;
 mod fronts;
+mod laws;
 mod numbers;
+mod reader;
+mod run_words;
 mod settings;
+
+pub use laws::{first_bad_word_is_one, words_ask_for_one_command};
+pub use reader::read;
+pub use run_words::RunWords;

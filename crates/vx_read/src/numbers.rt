@@ -1,8 +1,9 @@
 ghost use Rattle.std.specs.Prelude.{◌≡◌, ◌≤◌, Option, Some, None, is_some, if◌then◌else◌};
 ghost use Rattle.vx_words.specs.Words.{OptionName, row_of, is_same};
 ghost use Rattle.vx_read.specs.Settings.{option_of};
-ghost use Rattle.vx_read.specs.Numbers.{number_in, nothing};
+ghost use Rattle.vx_read.specs.Numbers.{number_in, nothing, IsRunOf};
 
+use crate::run_words::RunWords;
 use crate::settings::Setting;
 
 /// The numbers that options were given so far.
@@ -54,6 +55,18 @@ impl Numbers {
                 budget: Some(number),
                 ..self
             },
+        }
+    }
+
+    /// The words of `run` with these numbers and this image.
+    pub fn run_of<'a>(self, name: &'a str) -> RunWords<'a>
+        ensures { IsRunOf self name.now result }
+    {
+        RunWords {
+            window: self.window,
+            lanes: self.lanes,
+            budget: self.budget,
+            name,
         }
     }
 }

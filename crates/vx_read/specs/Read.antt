@@ -1,0 +1,18 @@
+-- What the words ask for, as it is read. This project's own.
+use Rattle.std.specs.Prelude.{◌≡◌, ℕ, List, IfSome}
+use Rattle.vx_words.specs.Words.{Given, given_number, IsInRange, AskFor}
+use Rattle.vx_words.specs.Words.OptionName.{Window, Lanes, Budget}
+use Rattle.vx_words.specs.Words.Command.{Run}
+use Rattle.vx_read.specs.declared.run_words.RunWords.{RunWords}
+
+-- the words ask to run the raw image of this name under these options; each number is the one that its option is given,
+-- and lies in the option's range
+pub record AreRead (words : List (List ℕ)) (run : RunWords) : Type 0 where
+  pub givens : List Given
+  pub asked : AskFor words (Run givens run.name.now)
+  pub window : run.window ≡ given_number Window givens
+  pub lanes : run.lanes ≡ given_number Lanes givens
+  pub budget : run.budget ≡ given_number Budget givens
+  pub window_in_range : IfSome run.window (λ number. IsInRange (record { option = Window; number = number }))
+  pub lanes_in_range : IfSome run.lanes (λ number. IsInRange (record { option = Lanes; number = number }))
+  pub budget_in_range : IfSome run.budget (λ number. IsInRange (record { option = Budget; number = number }))

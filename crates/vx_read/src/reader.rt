@@ -1,0 +1,53 @@
+ghost use Rattle.std.specs.Prelude.{◌≡◌, ℕ, List, ◌∷◌, map, string_bytes, codes, IfOk, IfErr};
+ghost use Rattle.vx_words.specs.Words.{AreOutside, IsFirstBad};
+ghost use Rattle.vx_read.specs.Read.{AreRead};
+ghost use Rattle.vx_read.specs.Numbers.{nothing};
+ghost use Rattle.vx_read.specs.Behind.{AreBadBehind};
+
+use crate::fronts::{Front, first_word, front_of};
+use crate::numbers::Numbers;
+use crate::run_words::RunWords;
+
+/// Reads the words of the command line, without the program's name: `run`, then options, then `raw:NAME`.
+///
+/// An option is two words, `--name number`, or one, `--name=number`; each is given at most once. A number is its decimal
+/// digits without a leading zero, in the option's range. NAME isn't empty, and ends the words. The command line is this
+/// project's own.
+///
+/// Where the words ask for no command, the answer is the index, from 0, of the first word that no command has behind
+/// those before it; where the words are a proper beginning of a command's, it is their number.
+pub fn read<'a>(words: &'a [String]) -> Result<RunWords<'a>, usize>
+    ensures asks { IfOk result (λ run. AreRead (map string_bytes words.now) run) }
+    ensures outside { IfErr result (λ _. AreOutside (map string_bytes words.now)) }
+    ensures first_bad { IfErr result (λ index. IsFirstBad (map string_bytes words.now) index) }
+{
+    let Some((word, rest)) = first_word(words) else {
+        return Err(0);
+    };
+    if word != "run" {
+        return Err(0);
+    }
+    match read_run(rest) {
+        Ok(run) => Ok(run),
+        Err(index) => Err(index + 1),
+    }
+}
+
+/// Reads the words behind `run`.
+fn read_run<'a>(words: &'a [String]) -> Result<RunWords<'a>, usize>
+    ensures asks { IfOk result (λ run. AreRead (codes "run" ∷ map string_bytes words.now) run) }
+    ensures bad { IfErr result (λ index. AreBadBehind nothing (map string_bytes words.now) index) }
+{
+    let mut numbers = Numbers::none();
+    let mut rest = words;
+    loop {
+        match front_of(rest, &numbers) {
+            Front::Given(setting, number, behind) => {
+                numbers = numbers.with(setting, number);
+                rest = behind;
+            }
+            Front::Image(name) => return Ok(numbers.run_of(name)),
+            Front::Bad(index) => return Err(words.len() - rest.len() + index),
+        }
+    }
+}
