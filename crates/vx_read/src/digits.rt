@@ -43,10 +43,11 @@ pub fn number_for(setting: Setting, text: &str) -> Option<u64>
     let Some(number) = number(text) else {
         return None;
     };
-    if number < setting.least() {
+    let row = setting.row();
+    if number < row.least {
         return None;
     }
-    if setting.greatest() < number {
+    if row.greatest < number {
         return None;
     }
     Some(number)

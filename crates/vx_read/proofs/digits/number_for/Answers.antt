@@ -7,12 +7,12 @@ use Rattle.vx_read.proofs.digits.number_for.Goals as goal
 pub returns-in_default : goal.returns-in_default
 returns-in_default c = λ number in_range is. c.in_default.ensures number (small (given_to c.args.setting number) in_range) is
 
-pub returns-then-number-least : goal.returns-then-number-least
-returns-then-number-least c = λ number in_range is.
+pub returns-then-number-row : goal.returns-then-number-row
+returns-then-number-row c = λ number in_range is.
     let same : number ≡ c.in-Some.number = decimal_injective number c.in-Some.number (small (given_to c.args.setting number) in_range) (omega arith) (sym is ∙ c.in-Some.ensures) in
     absurd (omega (arith, in_range.0))
 
-pub returns-then-greatest-number : goal.returns-then-greatest-number
-returns-then-greatest-number c = λ number in_range is.
+pub returns-then-row-number : goal.returns-then-row-number
+returns-then-row-number c = λ number in_range is.
     let same : number ≡ c.in-Some.number = decimal_injective number c.in-Some.number (small (given_to c.args.setting number) in_range) (omega arith) (sym is ∙ c.in-Some.ensures) in
     absurd (omega (arith, in_range.1))
