@@ -23,8 +23,8 @@ begins_with_digit text n small is = rw is (first_is_digit n small)
 zero_alone : (n : ℕ) → n < 2 ^ 64 → get_or (decimal n) 0 0 ≡ 48 → length (decimal n) ≡ 1
 zero_alone n small zero =
     ⊎_elim (λ (none : n < 1). let e : n ≡ 0 = omega arith in rw (e, decimal_digit 0 (omega arith)))
-        (λ (some : 1 ≤ n). absurd (omega (arith, first_decimal n some small)))
-        (cases_lt n 1)
+    (λ (some : 1 ≤ n). absurd (omega (arith, first_decimal n some small)))
+    (cases_lt n 1)
 
 pub begins_with_zero : (text : List ℕ) (n : ℕ) → n < 2 ^ 64 → text ≡ decimal n → get_or text 0 0 ≡ 48 → length text ≡ 1
 begins_with_zero text n small is zero = rw is (zero_alone n small (rw (← is) zero))

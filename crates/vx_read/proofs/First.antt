@@ -20,23 +20,23 @@ pub begun_nowhere : (numbers : Numbers) → AreBegunBehind numbers []
 begun_nowhere numbers = record { rest = codes "raw:x" ∷ []; givens = []; name = codes "x"; asked = (codes "raw:x", refl, some_image); new = λ option number has. refl }
 
 -- no words at all
-pub bad_none : (numbers : Numbers) → AreBadBehind numbers []  0
+pub bad_none : (numbers : Numbers) → AreBadBehind numbers [] 0
 bad_none numbers = record {
   outside = λ givens name asked new. none givens name asked;
   begun = begun_nowhere numbers;
   within = omega arith;
-  bad = λ inside begun. absurd (omega arith)
+  bad = λ inside begun. absurd (omega arith);
 } where
   none : (givens : List Given) (name : List ℕ) → AreOptionsAndImage [] givens name → ⊥
   none [] name t = let e = t.1 in cc
   none (given ∷ givens) name t =
       let e = t.1.1 in
       ⊎_elim
-          (λ (two : t.1.0 ≡ (row_of given.option).word ∷ decimal given.number ∷ []).
-              let never : [] ≡ (row_of given.option).word ∷ decimal given.number ∷ t.0 = e ∙ ap (λ item. item ++ t.0) two in cc)
-          (λ (one : t.1.0 ≡ ((row_of given.option).word ++ codes "=" ++ decimal given.number) ∷ []).
-              let never : [] ≡ ((row_of given.option).word ++ codes "=" ++ decimal given.number) ∷ t.0 = e ∙ ap (λ item. item ++ t.0) one in cc)
-          t.1.2
+      (λ (two : t.1.0 ≡ (row_of given.option).word ∷ decimal given.number ∷ []).
+      let never : [] ≡ (row_of given.option).word ∷ decimal given.number ∷ t.0 = e ∙ ap (λ item. item ++ t.0) two in cc)
+      (λ (one : t.1.0 ≡ ((row_of given.option).word ++ codes "=" ++ decimal given.number) ∷ []).
+      let never : [] ≡ ((row_of given.option).word ++ codes "=" ++ decimal given.number) ∷ t.0 = e ∙ ap (λ item. item ++ t.0) one in cc)
+      t.1.2
 
 -- a first word behind which nothing may stand
 pub bad_first : (numbers : Numbers) (word : List ℕ) (rest : List (List ℕ)) → ((more : List (List ℕ)) (givens : List Given) (name : List ℕ) → AreOptionsAndImage (word ∷ more) givens name → AreNew numbers givens → ⊥) → AreBadBehind numbers (word ∷ rest) 0
@@ -44,7 +44,7 @@ bad_first numbers word rest never = record {
   outside = never rest;
   begun = begun_nowhere numbers;
   within = omega arith;
-  bad = λ inside begun. never begun.rest begun.givens begun.name begun.asked begun.new
+  bad = λ inside begun. never begun.rest begun.givens begun.name begun.asked begun.new;
 }
 
 pub bad_form : (numbers : Numbers) (word : List ℕ) (rest : List (List ℕ)) → HasNoForm word → AreBadBehind numbers (word ∷ rest) 0
@@ -56,7 +56,7 @@ bad_behind_image numbers word next name rest image = record {
   outside = λ givens asked_name asked new. let never = (image_head word (next ∷ rest) givens name asked_name image asked).no_words in cc;
   begun = record { rest = []; givens = []; name = name; asked = (word, refl, image); new = λ option number has. refl };
   within = omega arith;
-  bad = λ inside begun. let never = (image_head word (next ∷ begun.rest) begun.givens name begun.name image begun.asked).no_words in cc
+  bad = λ inside begun. let never = (image_head word (next ∷ begun.rest) begun.givens name begun.name image begun.asked).no_words in cc;
 }
 
 -- an option that has a number already
@@ -69,12 +69,12 @@ not_new : (numbers : Numbers) (option : OptionName) (given : Given) (givens late
 not_new numbers option given givens later has are e new =
     never (number_in option numbers) refl has
   where
-  never : (had : Option ℕ) → number_in option numbers ≡ had → is_some had ≡ true → ⊥
-  never None is held = cc
-  never (Some number) is held =
-      let none : given_number option givens ≡ None = new option number is in
-      let some : given_number option givens ≡ Some given.number = rw are (given_first given later option e) in
-      let cannot : None ≡ Some given.number = sym none ∙ some in cc
+    never : (had : Option ℕ) → number_in option numbers ≡ had → is_some had ≡ true → ⊥
+    never None is held = cc
+    never (Some number) is held =
+        let none : given_number option givens ≡ None = new option number is in
+        let some : given_number option givens ≡ Some given.number = rw are (given_first given later option e) in
+        let cannot : None ≡ Some given.number = sym none ∙ some in cc
 
 pub bad_second_name : (numbers : Numbers) (word : List ℕ) (rest : List (List ℕ)) (option : OptionName) → word ≡ (row_of option).word → is_some (number_in option numbers) ≡ true → AreBadBehind numbers (word ∷ rest) 0
 bad_second_name numbers word rest option is has = bad_first numbers word rest (λ more givens name asked new.
@@ -97,12 +97,12 @@ is_none (Some number) none = cc
 least_new : (numbers : Numbers) (option : OptionName) (number : ℕ) → number_in option numbers ≡ None → AreNew numbers (record { option = option; number = number } ∷ [])
 least_new numbers option number none other has_number has =
     ⊎_elim
-        (λ (held : is_same option other ≡ true).
-            let HasNone : OptionName → Type 0 = λ o. number_in o numbers ≡ None in
-            let other_none : number_in other numbers ≡ None = subst HasNone (same_option option other held) none in
-            let never : None ≡ Some has_number = sym other_none ∙ has in absurd (cc))
-        (λ (never : is_same option other ≡ false). rw never refl)
-        (true_or_false (is_same option other))
+    (λ (held : is_same option other ≡ true).
+    let HasNone : OptionName → Type 0 = λ o. number_in o numbers ≡ None in
+    let other_none : number_in other numbers ≡ None = subst HasNone (same_option option other held) none in
+    let never : None ≡ Some has_number = sym other_none ∙ has in absurd (cc))
+    (λ (never : is_same option other ≡ false). rw never refl)
+    (true_or_false (is_same option other))
 
 begun_by_name : (numbers : Numbers) (word : List ℕ) (option : OptionName) → word ≡ (row_of option).word → is_some (number_in option numbers) ≡ false → AreBegunBehind numbers (word ∷ [])
 begun_by_name numbers word option is none =
@@ -112,7 +112,7 @@ begun_by_name numbers word option is none =
       givens = record { option = option; number = least } ∷ [];
       name = codes "x";
       asked = (codes "raw:x" ∷ [], (word ∷ decimal least ∷ [], refl, inl (ap (λ w. w ∷ decimal least ∷ []) is)), (omega arith, least_in_range option), refl, (codes "raw:x", refl, some_image));
-      new = least_new numbers option least (is_none (number_in option numbers) none)
+      new = least_new numbers option least (is_none (number_in option numbers) none);
     }
 
 -- an option's word without a number
@@ -121,7 +121,7 @@ bad_end numbers word option is none = record {
   outside = λ givens name asked new. let never = (name_head word [] givens name option is asked).words_are in cc;
   begun = begun_by_name numbers word option is none;
   within = omega arith;
-  bad = λ inside begun. absurd (omega arith)
+  bad = λ inside begun. absurd (omega arith);
 }
 
 -- the text is no number of the option
@@ -140,7 +140,7 @@ bad_number numbers word text rest option is none never = record {
   outside = λ givens name asked new. cannot rest givens name asked;
   begun = begun_by_name numbers word option is none;
   within = omega arith;
-  bad = λ inside begun. cannot begun.rest begun.givens begun.name begun.asked
+  bad = λ inside begun. cannot begun.rest begun.givens begun.name begun.asked;
 } where
   cannot : (more : List (List ℕ)) (givens : List Given) (name : List ℕ) → AreOptionsAndImage (word ∷ text ∷ more) givens name → ⊥
   cannot more givens name asked =
@@ -157,14 +157,14 @@ pub given_in_two : (numbers : Numbers) (word text : List ℕ) (rest : List (List
 given_in_two numbers word text rest given is number in_range none = record {
   spelled = (word ∷ text ∷ [], refl, inl (rw (is, number) refl));
   in_range = in_range;
-  first_time = is_none (number_in given.option numbers) none
+  first_time = is_none (number_in given.option numbers) none;
 }
 
 pub given_in_one : (numbers : Numbers) (word text : List ℕ) (rest : List (List ℕ)) (given : Given) → IsBoth word given.option text → text ≡ decimal given.number → IsInRange given → is_some (number_in given.option numbers) ≡ false → IsGivenFront numbers (word ∷ rest) given rest
 given_in_one numbers word text rest given is number in_range none = record {
   spelled = (word ∷ [], refl, inr (rw (is, number) refl));
   in_range = in_range;
-  first_time = is_none (number_in given.option numbers) none
+  first_time = is_none (number_in given.option numbers) none;
 }
 
 -- words behind an image

@@ -71,13 +71,13 @@ by_spelling : (word : List ℕ) (words : List (List ℕ)) (given : Given) (rest 
     → ((word ≡ (row_of given.option).word) × (words ≡ decimal given.number ∷ rest)) ⊎ (IsBoth word given.option (decimal given.number) × (words ≡ rest))
 by_spelling word words given rest spelled =
     ⊎_elim
-        (λ (two : spelled.0 ≡ (row_of given.option).word ∷ decimal given.number ∷ []).
-            let e : word ∷ words ≡ (row_of given.option).word ∷ decimal given.number ∷ rest = spelled.1 ∙ ap (λ item. item ++ rest) two in
-            inl (cc, cc))
-        (λ (one : spelled.0 ≡ ((row_of given.option).word ++ codes "=" ++ decimal given.number) ∷ []).
-            let e : word ∷ words ≡ ((row_of given.option).word ++ codes "=" ++ decimal given.number) ∷ rest = spelled.1 ∙ ap (λ item. item ++ rest) one in
-            inr (cc, cc))
-        spelled.2
+    (λ (two : spelled.0 ≡ (row_of given.option).word ∷ decimal given.number ∷ []).
+    let e : word ∷ words ≡ (row_of given.option).word ∷ decimal given.number ∷ rest = spelled.1 ∙ ap (λ item. item ++ rest) two in
+    inl (cc, cc))
+    (λ (one : spelled.0 ≡ ((row_of given.option).word ++ codes "=" ++ decimal given.number) ∷ []).
+    let e : word ∷ words ≡ ((row_of given.option).word ++ codes "=" ++ decimal given.number) ∷ rest = spelled.1 ∙ ap (λ item. item ++ rest) one in
+    inr (cc, cc))
+    spelled.2
 
 pub image_head : (word : List ℕ) (rest : List (List ℕ)) (givens : List Given) (name asked : List ℕ) → IsRawImage word name → AreOptionsAndImage (word ∷ rest) givens asked → IsEnd name rest givens asked
 image_head word rest [] name asked raw t =
@@ -87,9 +87,9 @@ image_head word rest [] name asked raw t =
     record { no_words = cc; no_givens = refl; same_name = image_is_image word asked name (subst Raw image t.2) raw }
 image_head word rest (given ∷ givens) name asked raw t =
     ⊎_elim
-        (λ n. absurd (image_is_not_name word name given.option raw n.0))
-        (λ b. absurd (image_is_not_both word name (decimal given.number) given.option raw b.0))
-        (by_spelling word rest given t.0 t.1)
+    (λ n. absurd (image_is_not_name word name given.option raw n.0))
+    (λ b. absurd (image_is_not_both word name (decimal given.number) given.option raw b.0))
+    (by_spelling word rest given t.0 t.1)
 
 pub name_head : (word : List ℕ) (words : List (List ℕ)) (givens : List Given) (name : List ℕ) (option : OptionName) → word ≡ (row_of option).word → AreOptionsAndImage (word ∷ words) givens name → IsNamed option words givens name
 name_head word words [] name option is t =
@@ -99,9 +99,9 @@ name_head word words [] name option is t =
     absurd (image_is_not_name word name option (subst Raw image t.2) is)
 name_head word words (given ∷ givens) name option is t =
     ⊎_elim
-        (λ n. record { given = given; later = givens; rest = t.0; givens_are = refl; option_is = name_is_name word given.option option n.0 is; words_are = n.1; in_range = t.2; once = t.3; asked = t.4 })
-        (λ b. absurd (name_is_not_both word option given.option (decimal given.number) is b.0))
-        (by_spelling word words given t.0 t.1)
+    (λ n. record { given = given; later = givens; rest = t.0; givens_are = refl; option_is = name_is_name word given.option option n.0 is; words_are = n.1; in_range = t.2; once = t.3; asked = t.4 })
+    (λ b. absurd (name_is_not_both word option given.option (decimal given.number) is b.0))
+    (by_spelling word words given t.0 t.1)
 
 pub both_head : (word : List ℕ) (words : List (List ℕ)) (givens : List Given) (name : List ℕ) (option : OptionName) (text : List ℕ) → IsBoth word option text → AreOptionsAndImage (word ∷ words) givens name → IsBothGiven option text words givens name
 both_head word words [] name option text is t =
@@ -112,10 +112,10 @@ both_head word words [] name option text is t =
 both_head word words (given ∷ givens) name option text is t =
     let Asked : List (List ℕ) → Type 0 = λ rest. AreOptionsAndImage rest givens name in
     ⊎_elim
-        (λ n. absurd (name_is_not_both word given.option option text n.0 is))
-        (λ b. let same = both_is_both word given.option option (decimal given.number) text b.0 is in
-            record { given = given; later = givens; givens_are = refl; option_is = same.0; text_is = sym same.1; in_range = t.2; once = t.3; asked = subst Asked (sym b.1) t.4 })
-        (by_spelling word words given t.0 t.1)
+    (λ n. absurd (name_is_not_both word given.option option text n.0 is))
+    (λ b. let same = both_is_both word given.option option (decimal given.number) text b.0 is in
+    record { given = given; later = givens; givens_are = refl; option_is = same.0; text_is = sym same.1; in_range = t.2; once = t.3; asked = subst Asked (sym b.1) t.4 })
+    (by_spelling word words given t.0 t.1)
 
 pub no_head : (word : List ℕ) (words : List (List ℕ)) (givens : List Given) (name : List ℕ) → HasNoForm word → AreOptionsAndImage (word ∷ words) givens name → ⊥
 no_head word words [] name none t =
@@ -125,9 +125,9 @@ no_head word words [] name none t =
     none.no_image name (subst Raw image t.2)
 no_head word words (given ∷ givens) name none t =
     ⊎_elim
-        (λ n. none.no_name given.option n.0)
-        (λ b. none.no_both given.option (decimal given.number) b.0)
-        (by_spelling word words given t.0 t.1)
+    (λ n. none.no_name given.option n.0)
+    (λ b. none.no_both given.option (decimal given.number) b.0)
+    (by_spelling word words given t.0 t.1)
 
 -- numbers in range are below 2^64, so that their digits tell them apart
 small_in : (option : OptionName) (n : ℕ) → n ≤ (row_of option).greatest → n < 2 ^ 64
@@ -163,13 +163,13 @@ pub spelled_head : (words : List (List ℕ)) (given : Given) (rest : List (List 
 spelled_head words given rest givens name spelled in_range asked =
     let Asked : List (List ℕ) → Type 0 = λ w. AreOptionsAndImage w givens name in
     ⊎_elim
-        (λ (two : spelled.0 ≡ (row_of given.option).word ∷ decimal given.number ∷ []).
-            let e : words ≡ (row_of given.option).word ∷ decimal given.number ∷ rest = spelled.1 ∙ ap (λ item. item ++ rest) two in
-            let h = name_head (row_of given.option).word (decimal given.number ∷ rest) givens name given.option refl (subst Asked e asked) in
-            let are = h.words_are in
-            first_is given h.given rest h.rest givens h.later name h.option_is in_range h.in_range (cc) (cc) h.givens_are h.once h.asked)
-        (λ (one : spelled.0 ≡ ((row_of given.option).word ++ codes "=" ++ decimal given.number) ∷ []).
-            let e : words ≡ ((row_of given.option).word ++ codes "=" ++ decimal given.number) ∷ rest = spelled.1 ∙ ap (λ item. item ++ rest) one in
-            let h = both_head ((row_of given.option).word ++ codes "=" ++ decimal given.number) rest givens name given.option (decimal given.number) refl (subst Asked e asked) in
-            first_is given h.given rest rest givens h.later name h.option_is in_range h.in_range h.text_is refl h.givens_are h.once h.asked)
-        spelled.2
+    (λ (two : spelled.0 ≡ (row_of given.option).word ∷ decimal given.number ∷ []).
+    let e : words ≡ (row_of given.option).word ∷ decimal given.number ∷ rest = spelled.1 ∙ ap (λ item. item ++ rest) two in
+    let h = name_head (row_of given.option).word (decimal given.number ∷ rest) givens name given.option refl (subst Asked e asked) in
+    let are = h.words_are in
+    first_is given h.given rest h.rest givens h.later name h.option_is in_range h.in_range (cc) (cc) h.givens_are h.once h.asked)
+    (λ (one : spelled.0 ≡ ((row_of given.option).word ++ codes "=" ++ decimal given.number) ∷ []).
+    let e : words ≡ ((row_of given.option).word ++ codes "=" ++ decimal given.number) ∷ rest = spelled.1 ∙ ap (λ item. item ++ rest) one in
+    let h = both_head ((row_of given.option).word ++ codes "=" ++ decimal given.number) rest givens name given.option (decimal given.number) refl (subst Asked e asked) in
+    first_is given h.given rest rest givens h.later name h.option_is in_range h.in_range h.text_is refl h.givens_are h.once h.asked)
+    spelled.2

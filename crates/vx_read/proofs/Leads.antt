@@ -21,16 +21,16 @@ lead_start words = record {
   passed = 0;
   lengths = omega arith;
   read = λ final name read. read;
-  bad = λ index bad. let At : ℕ → Type 0 = λ i. AreBadBehind nothing words i in let e : index ≡ 0 + index = omega arith in subst At e bad
+  bad = λ index bad. let At : ℕ → Type 0 = λ i. AreBadBehind nothing words i in let e : index ≡ 0 + index = omega arith in subst At e bad;
 }
 
 -- an option's words are one or two
 spelled_length : (item : List (List ℕ)) (given : Given) → Spell item given → 0 < length item
 spelled_length item given spelled =
     ⊎_elim
-        (λ (two : item ≡ (row_of given.option).word ∷ decimal given.number ∷ []). rw two (omega arith))
-        (λ (one : item ≡ ((row_of given.option).word ++ codes "=" ++ decimal given.number) ∷ []). rw one (omega arith))
-        spelled
+    (λ (two : item ≡ (row_of given.option).word ∷ decimal given.number ∷ []). rw two (omega arith))
+    (λ (one : item ≡ ((row_of given.option).word ++ codes "=" ++ decimal given.number) ∷ []). rw one (omega arith))
+    spelled
 
 pub shorter : (numbers : Numbers) (words rest : List (List ℕ)) (given : Given) → IsGivenFront numbers words given rest → length rest < length words
 shorter numbers words rest given front =
@@ -49,9 +49,9 @@ lead_on words numbers rest given after behind lead front with =
       lengths = omega arith;
       read = λ final name read. lead.read final name (read_from numbers given after final rest behind name spelled step read);
       bad = λ index bad.
-        let At : ℕ → Type 0 = λ i. AreBadBehind nothing words i in
-        let e : lead.passed + (length item + index) ≡ lead.passed + length item + index = omega arith in
-        subst At e (lead.bad (length item + index) (bad_from numbers given after rest behind (length item) index spelled step lengths bad))
+          let At : ℕ → Type 0 = λ i. AreBadBehind nothing words i in
+          let e : lead.passed + (length item + index) ≡ lead.passed + length item + index = omega arith in
+          subst At e (lead.bad (length item + index) (bad_from numbers given after rest behind (length item) index spelled step lengths bad));
     }
 
 either_none : (had : Option ℕ) → had ≡ either had None
@@ -63,5 +63,5 @@ image_read numbers words name image = record {
   givens = [];
   asked = image;
   new = λ option number has. refl;
-  numbers = λ option. either_none (number_in option numbers)
+  numbers = λ option. either_none (number_in option numbers);
 }

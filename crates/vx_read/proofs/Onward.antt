@@ -33,27 +33,27 @@ new_from : (before : Numbers) (given : Given) (after : Numbers) (later : List Gi
 new_from before given after later step new option number has =
     let all = step.with option in
     ⊎_elim
-        (λ (yes : is_same given.option option ≡ true).
-            let e = same_option given.option option yes in
-            let HasNone : OptionName → Type 0 = λ o. number_in o before ≡ None in
-            let none : number_in option before ≡ None = subst HasNone e step.none_before in
-            let no : None ≡ Some number = sym none ∙ has in absurd (cc))
-        (λ (no : is_same given.option option ≡ false).
-            let kept : number_in option after ≡ Some number = rw no at all ∙ has in
-            rw no (new option number kept))
-        (true_or_false (is_same given.option option))
+    (λ (yes : is_same given.option option ≡ true).
+    let e = same_option given.option option yes in
+    let HasNone : OptionName → Type 0 = λ o. number_in o before ≡ None in
+    let none : number_in option before ≡ None = subst HasNone e step.none_before in
+    let no : None ≡ Some number = sym none ∙ has in absurd (cc))
+    (λ (no : is_same given.option option ≡ false).
+    let kept : number_in option after ≡ Some number = rw no at all ∙ has in
+    rw no (new option number kept))
+    (true_or_false (is_same given.option option))
 
 new_onward : (before : Numbers) (given : Given) (after : Numbers) (later : List Given) → IsNewGiven before given after → given_number given.option later ≡ None → AreNew before (given ∷ later) → AreNew after later
 new_onward before given after later step once new option number has =
     let all = step.with option in
     ⊎_elim
-        (λ (yes : is_same given.option option ≡ true).
-            let HasNone : OptionName → Type 0 = λ o. given_number o later ≡ None in
-            subst HasNone (same_option given.option option yes) once)
-        (λ (no : is_same given.option option ≡ false).
-            let kept : number_in option before ≡ Some number = sym (rw no at all) ∙ has in
-            rw no at (new option number kept))
-        (true_or_false (is_same given.option option))
+    (λ (yes : is_same given.option option ≡ true).
+    let HasNone : OptionName → Type 0 = λ o. given_number o later ≡ None in
+    subst HasNone (same_option given.option option yes) once)
+    (λ (no : is_same given.option option ≡ false).
+    let kept : number_in option before ≡ Some number = sym (rw no at all) ∙ has in
+    rw no at (new option number kept))
+    (true_or_false (is_same given.option option))
 
 either_step : (same : Bool) (number : ℕ) (before later : Option ℕ) → (same ≡ true → before ≡ None)
     → either (cond same (Some number) before) later ≡ either before (cond same (Some number) later)
@@ -67,10 +67,10 @@ read_from before given after final words rest name spelled step read = record {
   asked = (rest, spelled, step.in_range, once_later before given after read.givens step read.new, read.asked);
   new = new_from before given after read.givens step read.new;
   numbers = λ option.
-    let all = step.with option in
-    let none : is_same given.option option ≡ true → number_in option before ≡ None =
-        (λ yes. let HasNone : OptionName → Type 0 = λ o. number_in o before ≡ None in subst HasNone (same_option given.option option yes) step.none_before) in
-    read.numbers option ∙ ap (λ n. either n (given_number option read.givens)) all ∙ either_step (is_same given.option option) given.number (number_in option before) (given_number option read.givens) none
+      let all = step.with option in
+      let none : is_same given.option option ≡ true → number_in option before ≡ None =
+      (λ yes. let HasNone : OptionName → Type 0 = λ o. number_in o before ≡ None in subst HasNone (same_option given.option option yes) step.none_before) in
+      read.numbers option ∙ ap (λ n. either n (given_number option read.givens)) all ∙ either_step (is_same given.option option) given.number (number_in option before) (given_number option read.givens) none;
 }
 
 -- words that begin behind it begin from it on, and the other way round
@@ -82,7 +82,7 @@ begun_from before given after words rest spelled step begun =
       givens = given ∷ begun.givens;
       name = begun.name;
       asked = (rest ++ begun.rest, (spelled.0, e, spelled.2), step.in_range, once_later before given after begun.givens step begun.new, begun.asked);
-      new = new_from before given after begun.givens step begun.new
+      new = new_from before given after begun.givens step begun.new;
     }
 
 begun_onward : (before : Numbers) (given : Given) (after : Numbers) (words rest : List (List ℕ)) → SpellBefore words given rest → IsNewGiven before given after → AreBegunBehind before words → AreBegunBehind after rest
@@ -95,7 +95,7 @@ begun_onward before given after words rest spelled step begun =
       givens = h.later;
       name = begun.name;
       asked = h.asked;
-      new = new_onward before given after h.later step h.once (subst New h.givens_are begun.new)
+      new = new_onward before given after h.later step h.once (subst New h.givens_are begun.new);
     }
 
 -- what is bad behind it is bad from it on
@@ -108,10 +108,10 @@ bad_from before given after words rest passed index spelled step lengths bad =
     let more_words : take (passed + index + 1) words ≡ item ++ take (index + 1) rest = rw (passed_is, e, add_assoc) (take-append-add item rest (index + 1)) in
     record {
       outside = λ givens name asked new.
-        let h = spelled_head words given rest givens name spelled step.in_range asked in
-        let New : List Given → Type 0 = λ givens. AreNew before givens in
-        bad.outside h.later name h.asked (new_onward before given after h.later step h.once (subst New h.givens_are new));
+          let h = spelled_head words given rest givens name spelled step.in_range asked in
+          let New : List Given → Type 0 = λ givens. AreNew before givens in
+          bad.outside h.later name h.asked (new_onward before given after h.later step h.once (subst New h.givens_are new));
       begun = begun_from before given after (take (passed + index) words) (take index rest) (item, begun_words, spelled.2) step bad.begun;
       within = let w = bad.within in omega arith;
-      bad = λ inside begun. bad.bad (omega arith) (begun_onward before given after (take (passed + index + 1) words) (take (index + 1) rest) (item, more_words, spelled.2) step begun)
+      bad = λ inside begun. bad.bad (omega arith) (begun_onward before given after (take (passed + index + 1) words) (take (index + 1) rest) (item, more_words, spelled.2) step begun);
     }

@@ -67,9 +67,10 @@ name_is_not_both word one other text is_one is_other =
 
 pub both_is_both : (word : List ℕ) (one other : OptionName) (text more : List ℕ) → IsBoth word one text → IsBoth word other more → (one ≡ other) × (text ≡ more)
 both_is_both word one other text more is_one is_other =
-    let same = sym is_one ∙ is_other in
-    (same_name one other (sym (row_is_both one text).before ∙ ap before_equals same ∙ (row_is_both other more).before),
-    sym (row_is_both one text).behind ∙ ap behind_equals same ∙ (row_is_both other more).behind)
+    let same = sym is_one ∙ is_other in (
+      same_name one other (sym (row_is_both one text).before ∙ ap before_equals same ∙ (row_is_both other more).before),
+      sym (row_is_both one text).behind ∙ ap behind_equals same ∙ (row_is_both other more).behind,
+    )
 
 -- an image is neither
 image_first : (word name : List ℕ) → IsRawImage word name → get_or word 0 0 ≡ 114

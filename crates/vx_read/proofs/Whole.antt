@@ -21,15 +21,15 @@ given_in_range : (words : List (List ℕ)) (givens : List Given) (name : List �
 given_in_range words [] name option number t given = absurd (cc)
 given_in_range words (first ∷ givens) name option number t given =
     ⊎_elim
-        (λ (same : is_same first.option option ≡ true).
-            let here : Some first.number ≡ Some number = rw same at given in
-            let number_is : first.number ≡ number = cc in
-            let make : OptionName → ℕ → Given = λ o n. record { option = o; number = n } in
-            let InRange : OptionName → Type 0 = λ o. IsInRange (make o first.number) in
-            let Number : ℕ → Type 0 = λ n. IsInRange (make option n) in
-            subst Number number_is (subst InRange (same_option first.option option same) t.2))
-        (λ (other : is_same first.option option ≡ false). given_in_range t.0 givens name option number t.4 (rw other at given))
-        (true_or_false (is_same first.option option))
+    (λ (same : is_same first.option option ≡ true).
+    let here : Some first.number ≡ Some number = rw same at given in
+    let number_is : first.number ≡ number = cc in
+    let make : OptionName → ℕ → Given = λ o n. record { option = o; number = n } in
+    let InRange : OptionName → Type 0 = λ o. IsInRange (make o first.number) in
+    let Number : ℕ → Type 0 = λ n. IsInRange (make option n) in
+    subst Number number_is (subst InRange (same_option first.option option same) t.2))
+    (λ (other : is_same first.option option ≡ false). given_in_range t.0 givens name option number t.4 (rw other at given))
+    (true_or_false (is_same first.option option))
 
 in_range_if : (had : Option ℕ) (option : OptionName) (givens : List Given) → had ≡ given_number option givens → ((number : ℕ) → given_number option givens ≡ Some number → IsInRange (record { option = option; number = number })) → IfSome had (λ number. IsInRange (record { option = option; number = number }))
 in_range_if None option givens is ranges = tt
@@ -51,7 +51,7 @@ read_whole words final name run read is =
       budget = budget;
       window_in_range = in_range_if run.window Window givens window (ranges Window);
       lanes_in_range = in_range_if run.lanes Lanes givens lanes (ranges Lanes);
-      budget_in_range = in_range_if run.budget Budget givens budget (ranges Budget)
+      budget_in_range = in_range_if run.budget Budget givens budget (ranges Budget);
     }
 
 nothing_new : (givens : List Given) → AreNew nothing givens
@@ -75,10 +75,10 @@ first_bad_whole words index bad =
       begun = rw add-one (begun_run (take index words) bad.begun);
       within = omega arith;
       bad = λ inside begun.
-        let e : take (index + 1 + 1) (codes "run" ∷ words) ≡ codes "run" ∷ take (index + 1) words = rw (add-one (index + 1)) refl in
-        let Begun : List (List ℕ) → Type 0 = λ w. AreBegun w in
-        let shorter = subst Begun e begun in
-        bad.bad (omega arith) (begun_behind (take (index + 1) words) shorter.0 shorter.1 shorter.2)
+          let e : take (index + 1 + 1) (codes "run" ∷ words) ≡ codes "run" ∷ take (index + 1) words = rw (add-one (index + 1)) refl in
+          let Begun : List (List ℕ) → Type 0 = λ w. AreBegun w in
+          let shorter = subst Begun e begun in
+          bad.bad (omega arith) (begun_behind (take (index + 1) words) shorter.0 shorter.1 shorter.2);
     }
 
 pub outside_all : (words rest : List (List ℕ)) (index : ℕ) → words ≡ codes "run" ∷ rest → AreBadBehind nothing rest index → AreOutside words
@@ -107,7 +107,7 @@ pub first_bad_command : (word : List ℕ) (rest : List (List ℕ)) → word ≢ 
 first_bad_command word rest other = record {
   begun = begun_none;
   within = omega arith;
-  bad = λ inside begun. not_run word begun.0 begun.1 other begun.2
+  bad = λ inside begun. not_run word begun.0 begun.1 other begun.2;
 }
 
 -- the words are read in one way
@@ -147,10 +147,10 @@ not_before words one other bad_one bad_other below =
 pub one_first_bad : (words : List (List ℕ)) (one other : ℕ) → IsFirstBad words one → IsFirstBad words other → one ≡ other
 one_first_bad words one other bad_one bad_other =
     ⊎_elim
-        (λ (below : one < other). absurd (not_before words one other bad_one bad_other below))
-        (λ (above : other ≤ one).
-            ⊎_elim
-                (λ (below : other < one). absurd (not_before words other one bad_other bad_one below))
-                (λ (above' : one ≤ other). omega arith)
-                (cases_lt other one))
-        (cases_lt one other)
+    (λ (below : one < other). absurd (not_before words one other bad_one bad_other below))
+    (λ (above : other ≤ one).
+    ⊎_elim
+    (λ (below : other < one). absurd (not_before words other one bad_other bad_one below))
+    (λ (above' : one ≤ other). omega arith)
+    (cases_lt other one))
+    (cases_lt one other)

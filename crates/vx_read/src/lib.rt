@@ -13,6 +13,8 @@ mod numbers;
 mod reader;
 mod run_words;
 mod settings;
+#[cfg(test)]
+mod tests;
 
 pub use laws::{first_bad_word_is_one, words_ask_for_one_command};
 pub use reader::read;

@@ -23,6 +23,6 @@ returns-in-Bad-clause-bad c =
     let lead = c.loop-setting.invariant in
     let lengths = lead.lengths in
     let e : lead.passed + c.in-Bad.index ≡ length c.args.words.now - length c.loop-setting.rest.now + c.in-Bad.index =
-        omega (arith, lengths, length-map c.args.words.now string_bytes, length-map c.loop-setting.rest.now string_bytes) in
+    omega (arith, lengths, length-map c.args.words.now string_bytes, length-map c.loop-setting.rest.now string_bytes) in
     let Bad : ℕ → Type 0 = λ index. AreBadBehind nothing words index in
     subst Bad e (lead.bad c.in-Bad.index c.in-Bad.ensures)
