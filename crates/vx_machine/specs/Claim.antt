@@ -6,13 +6,13 @@ use Rattle.vx_flat.specs.Image.{Image, raw_image, raw_fault}
 use Rattle.vx_flat.specs.declared.fault.ImageFault.{ImageFault}
 use Rattle.vx_flat.specs.declared.fault.ImageFault.TheVariants as fault
 use Rattle.vx_machine.specs.Accounts.{account_of, IsTrueOf}
-use Rattle.vx_machine.specs.Machine.{Settings, first_settings, machine, stop_of}
+use Rattle.vx_machine.specs.Machine.{Settings, settings_for, machine, stop_of}
 use Rattle.vx_machine.specs.Report.{report}
 use Rattle.vx_machine.specs.declared.stop.Stop.{Stop}
 use Rattle.vx_machine.specs.declared.stop.Stop.TheVariants as stop
 use Rattle.vx_words.specs.Notes.{FileFault, file_limit, bad_words, read_failed, bad_image, write_failed, no_memory}
 use Rattle.vx_words.specs.Notes.FileFault.{TooLong, RawLength, TooManyPages}
-use Rattle.vx_words.specs.Words.{AskFor, AreOutside}
+use Rattle.vx_words.specs.Words.{Given, AskFor, AskForFile, AreOutside, IsFirstBad}
 use Rattle.vx_words.specs.Words.Command.{Run}
 use Rattle.vx_words.specs.declared.status.Status.{Status}
 use Rattle.vx_words.specs.declared.status.Status.TheVariants.{Done, Usage, ReadFault, BadImage, WriteFault, Spent, NoMemory}
@@ -35,18 +35,19 @@ pub record Headline (settings : Settings) (image : Image) (stop : Stop) (text : 
 abbrev pub IsNoted : Devices → Devices → List ℕ → Type 0
 IsNoted before after text = IsWritten before.note after.note text ⊎ IsCutOff before.note after.note text
 
--- the words ask for no command, and no file was asked for
+-- the words ask for no command, and no file was asked for; the note tells the first bad word
 pub record HasBadWords (words : List (List ℕ)) (before after : Devices) : Type 0 where
   pub outside : AreOutside words
+  pub index : ℕ
+  pub first_bad : IsFirstBad words index
   pub shelf : after.shelf ≡ before.shelf
   pub out : after.out ≡ before.out
-  pub index : ℕ
   pub note : IsNoted before after (bad_words index)
 
 -- a fault of the shelf came in this call
 pub record HasReadFault (words : List (List ℕ)) (before after : Devices) : Type 0 where
   pub name : List ℕ
-  pub asks : AskFor words (Run name)
+  pub asks : AskForFile words name
   pub read : FailsToRead before.shelf after.shelf name
   pub out : after.out ≡ before.out
   pub note : IsNoted before after (read_failed name)
@@ -64,20 +65,21 @@ HasFault before after name (TooManyPages n) = HasBytesFault before after name (f
 -- the file is no image
 pub record HasBadImage (words : List (List ℕ)) (before after : Devices) : Type 0 where
   pub name : List ℕ
-  pub asks : AskFor words (Run name)
+  pub asks : AskForFile words name
   pub fault : FileFault
   pub cause : HasFault before.shelf after.shelf name fault
   pub out : after.out ≡ before.out
   pub note : IsNoted before after (bad_image name fault)
 
--- the file is an image, and it ran and stopped so, with this report
+-- the words ask for a run; the file is an image, and it ran and stopped so, with this report
 pub record HasRun (words : List (List ℕ)) (before after : Devices) (stop : Stop) (text : List ℕ) : Type 0 where
+  pub givens : List Given
   pub name : List ℕ
-  pub asks : AskFor words (Run name)
+  pub asks : AskFor words (Run givens name)
   pub bytes : List ℕ
   pub read : Reads before.shelf after.shelf name file_limit bytes
   pub is_image : raw_fault bytes ≡ None
-  pub headline : Headline first_settings (raw_image bytes) stop text
+  pub headline : Headline (settings_for givens) (raw_image bytes) stop text
 
 -- the report was written whole
 pub record HasReported (words : List (List ℕ)) (before after : Devices) (stop : Stop) : Type 0 where
@@ -96,7 +98,7 @@ pub record HasWriteFault (words : List (List ℕ)) (before after : Devices) : Ty
 
 -- memory was wanting: at most the words' file was asked for, and nothing was put on `out`
 pub record HasNoMemory (words : List (List ℕ)) (before after : Devices) : Type 0 where
-  pub shelf : IsUnasked before.shelf after.shelf ⊎ ((name : List ℕ) × AskFor words (Run name) × AsksFor before.shelf after.shelf name)
+  pub shelf : IsUnasked before.shelf after.shelf ⊎ ((name : List ℕ) × AskForFile words name × AsksFor before.shelf after.shelf name)
   pub out : after.out ≡ before.out
   pub note : IsNoted before after no_memory
 

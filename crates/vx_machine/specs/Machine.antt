@@ -1,6 +1,6 @@
 -- The machine with one process, by its rounds: a boundary, an episode of the process, and the service that ends it. This
 -- project's own.
-use Rattle.std.specs.Prelude.{ℕ, zero, suc, ◌+◌, ◌-◌, ◌/◌, Bool, false, true, ◌==◌, nat_le, length, Option, Some, None, if◌then◌else◌, unwrap_or}
+use Rattle.std.specs.Prelude.{ℕ, zero, suc, ◌+◌, ◌-◌, ◌/◌, Bool, false, true, ◌==◌, nat_le, List, length, Option, Some, None, if◌then◌else◌, unwrap_or}
 use Rattle.vx_flat.specs.Image.{Image}
 use Rattle.vx_flat.specs.Process.{Process, begun, stepped}
 use Rattle.vx_flat.specs.Service.{service}
@@ -11,6 +11,8 @@ use Rattle.vx_times.specs.Episode.{EpisodeEnd, episode}
 use Rattle.vx_times.specs.History.{Organisation}
 use Rattle.vx_times.specs.declared.pause.Pause.{Pause}
 use Rattle.vx_times.specs.declared.pause.Pause.TheVariants.{Slice, Service, Over}
+use Rattle.vx_words.specs.Words.{OptionName, Given, given_number}
+use Rattle.vx_words.specs.Words.OptionName.{Window, Lanes, Budget}
 
 -- the machine that a run is told for, the cycles of a turn, and the cycles after which the run ends
 pub record Settings : Type 0 where
@@ -18,12 +20,16 @@ pub record Settings : Type 0 where
   pub slice : ℕ
   pub budget : ℕ
 
--- the settings of a run whose words name no others
-abbrev pub first_settings : Settings
-first_settings = record {
-  organisation = record { lanes = 1; banks = 8; bank_time = 4; window = 1 };
+-- the number that an option is given, or else its default
+abbrev pub number_or : OptionName → (default : ℕ) → List Given → ℕ
+number_or option default givens = unwrap_or (given_number option givens) default
+
+-- the settings of a run under these options
+abbrev pub settings_for : List Given → Settings
+settings_for givens = record {
+  organisation = record { lanes = number_or Lanes 1 givens; banks = 8; bank_time = 4; window = number_or Window 1 givens };
   slice = 10000;
-  budget = 1000000000;
+  budget = number_or Budget 1000000000 givens;
 }
 
 -- the cycles for taking another process than the one that ran last, and those of a service beside its words

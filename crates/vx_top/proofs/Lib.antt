@@ -1,2 +1,3 @@
 pub mod Claimed
-pub mod Spelled
+pub mod Headlined
+pub mod Settled

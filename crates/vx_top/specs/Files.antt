@@ -6,7 +6,7 @@ use Rattle.vx_flat.specs.Image.{raw_image, raw_fault}
 use Rattle.vx_flat.specs.declared.fault.ImageFault.{ImageFault}
 use Rattle.vx_flat.specs.declared.fault.ImageFault.TheVariants as image
 use Rattle.vx_machine.specs.Claim.{Headline, HasFault}
-use Rattle.vx_machine.specs.Machine.{first_settings}
+use Rattle.vx_machine.specs.Machine.{Settings}
 use Rattle.vx_machine.specs.declared.stop.Stop.TheVariants as stop
 use Rattle.vx_top.specs.Noted.{Noted, NotesWant, Answers}
 use Rattle.vx_top.specs.declared.refusal.FileFault.{FileFault}
@@ -31,10 +31,10 @@ refusal_of (image.RawLength n) = BadImage (RawLength n)
 refusal_of (image.TooManyPages n) = BadImage (TooManyPages n)
 refusal_of image.NoMemory = NoMemory
 
--- the bytes are an image, and it ran and stopped so, with this report
-pub record Ran (bytes : List ℕ) (report : Report) : Type 0 where
+-- the bytes are an image, and it ran under the settings and stopped so, with this report
+pub record Ran (settings : Settings) (bytes : List ℕ) (report : Report) : Type 0 where
   pub is_image : raw_fault bytes ≡ None
-  pub headline : Headline first_settings (raw_image bytes) report.stop report.text
+  pub headline : Headline settings (raw_image bytes) report.stop report.text
 
 -- the bytes are refused for this
 abbrev pub RefusesBytes : List ℕ → Refusal → Type 0
@@ -45,10 +45,10 @@ RefusesBytes bytes (BadImage (TooManyPages n)) = raw_fault bytes ≡ Some (image
 RefusesBytes bytes NoMemory = Unit {0}
 
 -- the file of that name was read, is an image and ran, with this report
-pub record RanFile (before after : ShelfState) (name : List ℕ) (report : Report) : Type 0 where
+pub record RanFile (settings : Settings) (before after : ShelfState) (name : List ℕ) (report : Report) : Type 0 where
   pub bytes : List ℕ
   pub read : Reads before after name notes.file_limit bytes
-  pub ran : Ran bytes report
+  pub ran : Ran settings bytes report
 
 -- the file of that name is refused for this
 abbrev pub Refuses : ShelfState → ShelfState → List ℕ → Refusal → Type 0

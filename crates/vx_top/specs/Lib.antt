@@ -1,4 +1,4 @@
 pub mod Adapters
 pub mod Files
 pub mod Noted
-pub mod Spelled
+pub mod Ranges

@@ -1,29 +1,32 @@
 ghost use Rattle.std.specs.Prelude.{ℕ, List, map, string_bytes};
 ghost use Rattle.vx_machine.specs.Claim.{Claims};
-ghost use Rattle.vx_words.specs.Words.{AskFor};
-ghost use Rattle.vx_words.specs.Words.Command.{Run};
+ghost use Rattle.vx_read.specs.Read.{AreRead};
+ghost use Rattle.vx_top.specs.Ranges.{AreInRange};
 
 use crate::notes;
+use crate::options::options_for;
 use crate::run::run_file;
 use crate::tell::{tell, tell_refusal, tell_report};
-use crate::words::raw_name;
 use std::alloc::Global;
 use vx_base::{Shelf, Sink};
+use vx_read::{RunWords, read};
 use vx_words::Status;
 
-/// Runs the raw image of that name. What the answer says holds for whatever words ask for it.
+/// Runs the raw image that words ask for. What the answer says holds for whatever words ask for it.
 fn run<F: Shelf, K: Sink, N: Sink>(
     alloc: Global,
-    name: &str,
+    run: &RunWords,
     shelf: &mut F,
     out: &mut K,
     note: &mut N,
 ) -> Status
-    ensures { (words : List (List ℕ)) → AskFor words (Run name.now) → Claims words (record { shelf = F.state shelf.old; out = K.state out.old; note = N.state note.old }) (record { shelf = F.state shelf.new; out = K.state out.new; note = N.state note.new }) result }
+    requires in_range { AreInRange run.now }
+    ensures { (words : List (List ℕ)) → AreRead words run.now → Claims words (record { shelf = F.state shelf.old; out = K.state out.old; note = N.state note.old }) (record { shelf = F.state shelf.new; out = K.state out.new; note = N.state note.new }) result }
 {
-    match run_file(alloc, name, shelf) {
+    let options = options_for(run);
+    match run_file(alloc, run.name, &options, shelf) {
         Ok(report) => tell_report(&report, out, note),
-        Err(refusal) => tell_refusal(alloc, name, refusal, note),
+        Err(refusal) => tell_refusal(alloc, run.name, refusal, note),
     }
 }
 
@@ -38,8 +41,8 @@ pub fn vexec<F: Shelf, K: Sink, N: Sink>(
 ) -> Status
     ensures { Claims (map string_bytes words.now) (record { shelf = F.state shelf.old; out = K.state out.old; note = N.state note.old }) (record { shelf = F.state shelf.new; out = K.state out.new; note = N.state note.new }) result }
 {
-    match raw_name(words) {
-        Ok(name) => run(alloc, name, shelf, out, note),
+    match read(words) {
+        Ok(asked) => run(alloc, &asked, shelf, out, note),
         Err(index) => tell(note, Status::Usage, notes::bad_words(alloc, index)),
     }
 }

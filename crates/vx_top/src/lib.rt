@@ -7,13 +7,13 @@
 mod call;
 mod file_shelf;
 mod notes;
+mod options;
 mod out_sink;
 mod refusal;
 mod run;
 mod tell;
 #[cfg(test)]
 mod tests;
-mod words;
 
 pub use call::vexec;
 pub use file_shelf::FileShelf;

@@ -1,5 +1,6 @@
-ghost use Rattle.std.specs.Prelude.{IfOk, IfErr};
+ghost use Rattle.std.specs.Prelude.{◌≡◌, IfOk, IfErr};
 ghost use Rattle.vx_base.specs.Shelf.{Reads};
+ghost use Rattle.vx_system.specs.Runs.{settings_of};
 ghost use Rattle.vx_words.specs.Notes.{file_limit};
 ghost use Rattle.vx_top.specs.Files.{Ran, RefusesBytes, RanFile, Refuses};
 
@@ -17,14 +18,14 @@ pub struct Report {
     pub text: Bytes,
 }
 
-/// Runs the raw image of these bytes under the first options.
-fn run_image(alloc: Global, bytes: &[u8]) -> Result<Report, Refusal>
-    ensures ran { IfOk result (Ran bytes.now) }
+/// Runs the raw image of these bytes.
+fn run_image(alloc: Global, bytes: &[u8], options: &Options) -> Result<Report, Refusal>
+    requires window { options.now.window ≡ 1 }
+    ensures ran { IfOk result (Ran (settings_of options.now) bytes.now) }
     ensures refused { IfErr result (RefusesBytes bytes.now) }
 {
     accounts_are_true();
-    let options = Options::new();
-    let mut system = System::boot(alloc, bytes, &options)?;
+    let mut system = System::boot(alloc, bytes, options)?;
     let stop = system.run();
     let text = system.report(alloc, stop)?;
     Ok(Report { stop, text })
@@ -43,10 +44,16 @@ fn read_file<F: Shelf>(alloc: Global, name: &str, shelf: &mut F) -> Result<Bytes
 }
 
 /// Reads the raw image of that name and runs it.
-pub fn run_file<F: Shelf>(alloc: Global, name: &str, shelf: &mut F) -> Result<Report, Refusal>
-    ensures ran { IfOk result (RanFile (F.state shelf.old) (F.state shelf.new) name.now) }
+pub fn run_file<F: Shelf>(
+    alloc: Global,
+    name: &str,
+    options: &Options,
+    shelf: &mut F,
+) -> Result<Report, Refusal>
+    requires window { options.now.window ≡ 1 }
+    ensures ran { IfOk result (RanFile (settings_of options.now) (F.state shelf.old) (F.state shelf.new) name.now) }
     ensures refused { IfErr result (Refuses (F.state shelf.old) (F.state shelf.new) name.now) }
 {
     let bytes = read_file(alloc, name, shelf)?;
-    run_image(alloc, bytes.slice())
+    run_image(alloc, bytes.slice(), options)
 }

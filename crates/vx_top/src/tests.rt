@@ -16,6 +16,10 @@ const HI: [u8; 40] = [
 const HI_REPORT: &str =
     "process 0: exited 0\n  instructions 9 cycles 164 misses 0\n  output 3\nhi\n\ntotal 264 cycles, done\n";
 
+/// Its report where the budget ends behind its first service.
+const HI_SPENT: &str =
+    "process 0: stopped pc 0x0000000000010018 vstart 0\n  instructions 6 cycles 87 misses 0\n  output 3\nhi\n\ntotal 187 cycles, spent\n";
+
 /// A shelf of one file.
 fn shelf_of(alloc: Global, name: &str, bytes: Vec<u8>) -> Result<MemShelf, AllocError> {
     let file = NamedFile {
@@ -93,19 +97,44 @@ fn images_are_run_and_reported(rt: HostRuntime) -> Result<(), Fail> {
 }
 
 #[test]
+fn options_are_heeded(rt: HostRuntime) -> Result<(), Fail> {
+    let alloc = rt.alloc();
+    let table = [
+        ("run raw:image", Status::Done, HI_REPORT),
+        (
+            "run --lanes=1 --window=1 raw:image",
+            Status::Done,
+            HI_REPORT,
+        ),
+        (
+            "run --budget 1 --lanes 1 raw:image",
+            Status::Spent,
+            HI_SPENT,
+        ),
+        ("run --budget=187 raw:image", Status::Spent, HI_SPENT),
+        ("run --budget=188 raw:image", Status::Done, HI_REPORT),
+    ];
+    for (words, status, report) in table {
+        let mut shelf = shelf_of(alloc, "image", Vec::from_slice(alloc, HI.as_slice())?)?;
+        let run = call(alloc, words, &mut shelf)?;
+        assert_eq!(rt; run.status, status, "{words}");
+        assert_eq!(rt; run.out.bytes(), report.as_bytes(), "{words}");
+        assert_eq!(rt; run.note.bytes().len(), 0);
+    }
+    Ok(())
+}
+
+#[test]
 fn words_outside_the_grammar_are_refused(rt: HostRuntime) -> Result<(), Fail> {
     let alloc = rt.alloc();
     let table = [
         ("", "0"),
-        ("run", "1"),
         ("alone raw:hi", "0"),
-        ("run raw:hi", "1"),
-        ("run --window 2 --lanes 1 raw:hi", "2"),
-        ("run --window 1 --lanes 2 raw:hi", "4"),
-        ("run --window 1 --lanes 1", "5"),
-        ("run --window 1 --lanes 1 hi", "5"),
-        ("run --window 1 --lanes 1 raw:", "5"),
-        ("run --window 1 --lanes 1 raw:hi raw:hi", "6"),
+        ("run", "1"),
+        ("run --lanes 3 raw:hi", "2"),
+        ("run --budget 1 --budget=1 raw:hi", "3"),
+        ("run --budget 1 hi", "3"),
+        ("run raw:hi raw:hi", "2"),
     ];
     for (words, index) in table {
         let mut shelf = shelf_of(alloc, "hi", Vec::from_slice(alloc, HI.as_slice())?)?;

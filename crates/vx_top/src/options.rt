@@ -1,0 +1,48 @@
+ghost use Rattle.std.specs.Prelude.{◌≡◌, ◌≤◌, ◌^◌, IfSome, unwrap_or};
+ghost use Rattle.vx_top.specs.Ranges.{AreInRange};
+
+use vx_base::Options;
+use vx_read::RunWords;
+
+/// The number of an option that takes 1 alone.
+fn one(given: Option<u32>) -> u32
+    requires { IfSome given (λ n. (1 ≤ n) × (n ≤ 1)) }
+    ensures value { result ≡ unwrap_or given 1 }
+    ensures one { result ≡ 1 }
+{
+    match given {
+        Some(number) => number,
+        None => 1,
+    }
+}
+
+/// The budget, in cycles.
+fn budget(given: Option<u64>) -> u64
+    requires { IfSome given (λ n. (1 ≤ n) × (n ≤ 2 ^ 40)) }
+    ensures value { result ≡ unwrap_or given 1000000000 }
+    ensures positive { 1 ≤ result }
+    ensures in_range { result ≤ 2 ^ 40 }
+{
+    match given {
+        Some(cycles) => cycles,
+        None => 1_000_000_000,
+    }
+}
+
+/// The options that the words of a run ask for; one that they don't give has its default.
+pub fn options_for(run: &RunWords) -> Options
+    requires in_range { AreInRange run.now }
+    ensures lanes { result.lanes ≡ unwrap_or run.now.lanes 1 }
+    ensures banks { result.banks ≡ 8 }
+    ensures bank_time { result.bank_time ≡ 4 }
+    ensures window { result.window ≡ unwrap_or run.now.window 1 }
+    ensures slice { result.slice ≡ 10000 }
+    ensures budget { result.budget ≡ unwrap_or run.now.budget 1000000000 }
+    ensures alone { result.window ≡ 1 }
+{
+    let mut options = Options::new();
+    options.window = one(run.window);
+    options.lanes = one(run.lanes);
+    options.budget = budget(run.budget);
+    options
+}
