@@ -12,6 +12,3 @@ listed-more f kinds i d separator before middle after h p q =
     let at : drop i kinds ≡ get_or kinds i d ∷ rest = drop-cons kinds i d h ∙ ap (λ j. get_or kinds i d ∷ drop j kinds) (sym (add-one i)) in
     rw at (rw q (rw p (simp append_assoc)))
 
--- no operand is left
-pub listed-none : {K : Type 0} (f : K → List ℕ) (kinds : List K) (i : ℕ) (separator text : List ℕ) → length kinds ≤ i → text ++ listed separator (map f (drop i kinds)) ≡ text
-listed-none f kinds i separator text h = rw (drop_of_length-le kinds {i = i} h) (append-nil text)

@@ -5,9 +5,9 @@
 #![tactic(auto)]
 
 mod line;
-//mod listing;
+mod listing;
 #[cfg(test)]
 mod tests;
 
 pub use line::line_of;
-//pub use listing::{ListingFault, write_listing};
+pub use listing::{ListingFault, write_listing};

@@ -1,6 +1,6 @@
 use Rattle.std.proofs.Common.{ℕ, List, ◌∙◌, rules, string_bytes}
 use Rattle.vx_source.specs.Operands.{operand_text}
-use Rattle.vx_dis.proofs.Listed.{listed-more, listed-none}
+use Rattle.vx_dis.proofs.Listed.{listed-more}
 use Rattle.vx_dis.proofs.line.push_operands.Goals as goal
 
 pub loop-kind-preserved : goal.loop-kind-preserved
