@@ -11,4 +11,3 @@ listed-more f kinds i d separator before middle after h p q =
     let rest = drop (i + 1) kinds in
     let at : drop i kinds ≡ get_or kinds i d ∷ rest = drop-cons kinds i d h ∙ ap (λ j. get_or kinds i d ∷ drop j kinds) (sym (add-one i)) in
     rw at (rw q (rw p (simp append_assoc)))
-

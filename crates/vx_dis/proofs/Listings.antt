@@ -21,7 +21,7 @@ pub listing-next : (rest word later before middle after whole : List ℕ) → 4 
 listing-next rest word later before middle after whole h front back line newline sofar =
     let step = listing-word rest h in
     let here : after ++ listing later ≡ before ++ (line_of (from_le_bytes w32 (take 4 rest)) ++ 10 ∷ listing (drop 4 rest)) =
-        rw back (rw newline (rw line (rw front (simp append_assoc)))) in
+    rw back (rw newline (rw line (rw front (simp append_assoc)))) in
     here ∙ ap (λ (l : List ℕ). before ++ l) step ∙ sofar
 
 -- no whole word

@@ -81,8 +81,8 @@ fn push_operand(text: &mut String, instr: &Instr, kind: OperandKind) -> Result<(
         OperandKind::Destination => push_register(text, instr.rd),
         OperandKind::FirstSource => push_register(text, instr.rs1),
         OperandKind::SecondSource => push_register(text, instr.rs2),
-        OperandKind::Signed(_) | OperandKind::Unsigned(_) | OperandKind::Target(_) =>
-            push_number(text, instr.imm),
+        OperandKind::Signed(_) | OperandKind::Unsigned(_) => push_number(text, instr.imm),
+        OperandKind::Target(_) => push_number(text, instr.imm),
         OperandKind::Address => push_address(text, instr.imm, instr.rs1),
         OperandKind::Control => push_control(text, instr.imm.unsigned_abs()),
         OperandKind::Number => push_number(text, i64::from(instr.rs1)),
@@ -90,11 +90,7 @@ fn push_operand(text: &mut String, instr: &Instr, kind: OperandKind) -> Result<(
 }
 
 /// Appends an instruction's operands of these kinds, behind a space, with a comma and a space between them.
-fn push_operands(
-    text: &mut String,
-    instr: &Instr,
-    kinds: &[OperandKind],
-) -> Result<(), AllocError>
+fn push_operands(text: &mut String, instr: &Instr, kinds: &[OperandKind]) -> Result<(), AllocError>
     requires { IsValid instr.now }
     ensures { OnOk result (string_bytes text.new ≡ string_bytes text.old ++ listed (codes " ") (map (operand_text instr.now) kinds.now)) }
 {

@@ -57,11 +57,7 @@ fn push_lines(text: &mut String, bytes: &[u8]) -> Result<(), AllocError>
 
 /// Writes the lines of all whole words of the piece. The text keeps them meanwhile.
 #[tactic(auto, using(crate::proofs::Written::begun_with_nothing))]
-fn write_piece<K: Sink>(
-    text: &mut String,
-    piece: &[u8],
-    out: &mut K,
-) -> Result<(), ListingFault>
+fn write_piece<K: Sink>(text: &mut String, piece: &[u8], out: &mut K) -> Result<(), ListingFault>
     ensures written { OnOk result (IsWritten (K.state out.old) (K.state out.new) (listing piece.now)) }
     ensures stopped { IfErr result (Stops (K.state out.old) (K.state out.new) (listing piece.now)) }
 {
@@ -77,11 +73,7 @@ fn write_piece<K: Sink>(
 /// `Err` says why it stopped behind a prefix of the listing: `Write` comes only where the sink's count of faults rose,
 /// and `NoMemory` where memory was wanting.
 #[tactic(auto, using(crate::proofs::Written::begun_with_nothing))]
-pub fn write_listing<K: Sink>(
-    alloc: Global,
-    bytes: &[u8],
-    out: &mut K,
-) -> Result<(), ListingFault>
+pub fn write_listing<K: Sink>(alloc: Global, bytes: &[u8], out: &mut K) -> Result<(), ListingFault>
     ensures written { OnOk result (IsWritten (K.state out.old) (K.state out.new) (listing bytes.now)) }
     ensures stopped { IfErr result (Stops (K.state out.old) (K.state out.new) (listing bytes.now)) }
 {

@@ -9,7 +9,7 @@ returns-in_ok-push t c =
     let digit = c.hex_digit.ensures.value in
     let small : c.from.result < 128 = omega arith in
     let last : string_bytes c.push.new.self ≡ string_bytes c.push_hex.new.text ++ c.from.result ∷ [] =
-        c.in_ok-push.ensures.bytes ∙ ap (λ l. string_bytes c.push_hex.new.text ++ l) (c.in_ok-push.ensures.ascii small) in
+    c.in_ok-push.ensures.bytes ∙ ap (λ l. string_bytes c.push_hex.new.text ++ l) (c.in_ok-push.ensures.ascii small) in
     rw (← more) (rw (← append_assoc) (cc))
 
 pub returns-else-count-gt0 : goal.returns-else-count-gt0
