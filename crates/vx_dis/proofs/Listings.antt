@@ -1,5 +1,5 @@
 -- A listing, a word or a piece at a time.
-use Rattle.std.proofs.Common.{◌≡◌, ℕ, zero, suc, ◌+◌, ◌*◌, ◌<◌, ◌≤◌, List, [], ◌∷◌, ◌++◌, length, take, drop, refl, sym, ap, ◌∙◌, append_assoc, append-nil, arith, w32}
+use Rattle.std.proofs.Common.{◌≡◌, ℕ, zero, suc, ◌*◌, ◌<◌, ◌≤◌, List, [], ◌∷◌, ◌++◌, length, take, drop, refl, sym, ap, ◌∙◌, append_assoc, append-nil, arith, w32}
 use Rattle.std.specs.Int.{from_le_bytes}
 use Rattle.vx_base.specs.Numbers.{from_little_endian}
 use Rattle.vx_source.specs.Lines.{line_of}

@@ -1,4 +1,4 @@
-use Rattle.std.proofs.Common.{ℕ, List, ◌∙◌, rules, string_bytes}
+use Rattle.std.proofs.Common.{◌∙◌, rules, string_bytes}
 use Rattle.vx_source.specs.Operands.{operand_text}
 use Rattle.vx_dis.proofs.Listed.{listed-more}
 use Rattle.vx_dis.proofs.line.push_operands.Goals as goal

@@ -1,5 +1,4 @@
-use Rattle.std.proofs.Common.{string_bytes, refl, ap, ◌∙◌, ◌++◌, arith, List, ℕ, ◌≡◌, w32}
-use Rattle.std.specs.Int.{from_le_bytes}
+use Rattle.std.proofs.Common.{string_bytes, refl, ap, ◌∙◌, ◌++◌, arith, List, ℕ}
 use Rattle.vx_source.specs.Lines.{line_of}
 use Rattle.vx_dis.proofs.Listings.{listing-next, listing-over}
 use Rattle.vx_dis.proofs.listing.push_lines.Goals as goal

@@ -1,6 +1,6 @@
-use Rattle.std.proofs.Common.{ℕ, List, ◌≡◌, ◌++◌, [], subst, sym, append-nil}
+use Rattle.std.proofs.Common.{[], append-nil}
 use Rattle.vx_source.specs.Listing.{listing}
-use Rattle.vx_dis.proofs.Written.{IsBefore, IsBefore-more, IsBefore-stopped, IsBefore-handed}
+use Rattle.vx_dis.proofs.Written.{IsBefore-more, IsBefore-stopped, IsBefore-handed}
 use Rattle.vx_dis.proofs.Listings.{listing-piece}
 use Rattle.vx_dis.proofs.listing.write_listing.Goals as goal
 

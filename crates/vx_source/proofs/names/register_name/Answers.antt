@@ -1,4 +1,4 @@
-use Rattle.std.proofs.Common.{List, [], Bor, ◌≡◌, ◌<◌, length, ◌∙◌, sym, ap, get_or, arith}
+use Rattle.std.proofs.Common.{List, [], Bor, ◌<◌, length, ◌∙◌, sym, ap, get_or, arith}
 use Rattle.std.specs.Prelude.{ℕ}
 use Rattle.std.proofs.lemmas.List.{get_or-map}
 use Rattle.vx_source.specs.Names.{register_names}
