@@ -1,0 +1,4 @@
+pub mod Hex
+pub mod Listed
+pub mod Listings
+pub mod Written

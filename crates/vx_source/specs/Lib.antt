@@ -1,0 +1,4 @@
+pub mod Lines
+pub mod Listing
+pub mod Names
+pub mod Operands

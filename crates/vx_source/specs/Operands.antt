@@ -1,0 +1,42 @@
+-- The operands of a line. Their order is that of the assembly syntax of the RISC-V Unprivileged ISA 20191213, chapters 2
+-- and 9; that of `jalr` and `fence` is this project's own: as of any row with such fields.
+use Rattle.std.specs.Prelude.{ℕ, List, [], ◌∷◌, ◌++◌, codes, decimal, unwrap_or, unsigned_abs}
+use Rattle.std.specs.Fmt.{signed_decimal}
+use Rattle.vx_rows.specs.declared.row.Shape.{Shape}
+use Rattle.vx_rows.specs.declared.row.Shape.TheVariants as shape
+use Rattle.vx_decode.specs.declared.instr.Instr.{Instr}
+use Rattle.vx_source.specs.declared.operand.OperandKind.{OperandKind}
+use Rattle.vx_source.specs.declared.operand.OperandKind.TheVariants.{Destination, FirstSource, SecondSource, Signed, Unsigned, Target, Address, Control, Number}
+use Rattle.vx_source.specs.Names.{register_name, control_name}
+
+-- the operands of a row of each shape, in order
+abbrev pub operand_kinds : Shape → List OperandKind
+operand_kinds shape.Registers = Destination ∷ FirstSource ∷ SecondSource ∷ []
+operand_kinds shape.Immediate = Destination ∷ FirstSource ∷ Signed 12 ∷ []
+operand_kinds shape.Shift = Destination ∷ FirstSource ∷ Unsigned 6 ∷ []
+operand_kinds shape.ShiftWord = Destination ∷ FirstSource ∷ Unsigned 5 ∷ []
+operand_kinds shape.Load = Destination ∷ Address ∷ []
+operand_kinds shape.Store = SecondSource ∷ Address ∷ []
+operand_kinds shape.Branch = FirstSource ∷ SecondSource ∷ Target 13 ∷ []
+operand_kinds shape.Upper = Destination ∷ Unsigned 20 ∷ []
+operand_kinds shape.Jump = Destination ∷ Target 21 ∷ []
+operand_kinds shape.Fence = Destination ∷ FirstSource ∷ Unsigned 12 ∷ []
+operand_kinds shape.Csr = Destination ∷ Control ∷ FirstSource ∷ []
+operand_kinds shape.CsrNumber = Destination ∷ Control ∷ Number ∷ []
+operand_kinds shape.Fixed = []
+
+-- the text of the control register of that number: its name, or else the number
+abbrev pub control_text : ℕ → List ℕ
+control_text n = unwrap_or (control_name n) (decimal n)
+
+-- the text of an instruction's operand of each kind; numbers are decimal
+abbrev pub operand_text : Instr → OperandKind → List ℕ
+operand_text i Destination = register_name i.rd
+operand_text i FirstSource = register_name i.rs1
+operand_text i SecondSource = register_name i.rs2
+operand_text i (Signed width) = signed_decimal i.imm
+operand_text i (Unsigned width) = signed_decimal i.imm
+operand_text i (Target width) = signed_decimal i.imm
+operand_text i Address = signed_decimal i.imm ++ codes "(" ++ register_name i.rs1 ++ codes ")"
+operand_text i Control = control_text (unsigned_abs i.imm)
+operand_text i Number = decimal i.rs1
