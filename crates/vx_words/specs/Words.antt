@@ -1,5 +1,5 @@
 -- The words of the command line and what they ask for; the program's name isn't among them. This project's own.
-use Rattle.std.specs.Prelude.{◌≡◌, ℕ, ◌+◌, ◌^◌, ◌<◌, ◌≤◌, Bool, true, false, ◌⊎◌, List, [], ◌∷◌, ◌++◌, length, take, Option, Some, None, if◌then◌else◌, codes, decimal}
+use Rattle.std.specs.Prelude.{◌≡◌, ◌≢◌, ℕ, ◌+◌, ◌^◌, ◌<◌, ◌≤◌, Bool, true, false, ◌⊎◌, List, [], ◌∷◌, ◌++◌, length, take, Option, Some, None, if◌then◌else◌, codes, decimal}
 
 -- the options, each of which takes a number
 pub data OptionName : Type 0 where
@@ -59,10 +59,22 @@ SpellAll words (given ∷ givens) =
 pub data Command : Type 0 where
   -- run the raw image of this name under these options
   Run : (givens : List Given) (name : List ℕ) → Command
+  -- list the instructions of the file of this name
+  Dis : (name : List ℕ) → Command
+
+-- the file that a command is on
+abbrev pub file_of : Command → List ℕ
+file_of (Run givens name) = name
+file_of (Dis name) = name
 
 -- the word is the raw image of this name
 abbrev pub IsRawImage : List ℕ → List ℕ → Type 0
 IsRawImage word name = (0 < length name) × (word ≡ codes "raw:" ++ name)
+
+-- the word is a file: it isn't empty, and doesn't begin with `-`
+abbrev pub IsFile : List ℕ → Type 0
+IsFile [] = ⊥
+IsFile (first ∷ rest) = first ≢ 45
 
 -- the words ask for the command
 abbrev pub AskFor : List (List ℕ) → Command → Type 0
@@ -72,10 +84,11 @@ AskFor words (Run givens name) =
     × (words ≡ codes "run" ∷ (options ++ image ∷ []))
     × SpellAll options givens
     × IsRawImage image name
+AskFor words (Dis name) = (words ≡ codes "dis" ∷ name ∷ []) × IsFile name
 
 -- the words ask for a command on the file of this name
 abbrev pub AskForFile : List (List ℕ) → List ℕ → Type 0
-AskForFile words name = (givens : List Given) × AskFor words (Run givens name)
+AskForFile words name = (command : Command) × AskFor words command × (file_of command ≡ name)
 
 -- the words ask for no command
 abbrev pub AreOutside : List (List ℕ) → Type 0
