@@ -18,6 +18,13 @@ pub record IsWritten (before after : SinkState) (text : List ℕ) : Type 0 where
   pub appends : Appends before after text
   pub faults : before.faults ≤ after.faults
 
+-- a prefix of the text was put
+pub record IsBegun (before after : SinkState) (text : List ℕ) : Type 0 where
+  pub count : ℕ
+  pub within : count ≤ length text
+  pub appends : Appends before after (take count text)
+  pub faults : before.faults ≤ after.faults
+
 -- a fault came, and a prefix of the text was put
 pub record IsCutOff (before after : SinkState) (text : List ℕ) : Type 0 where
   pub count : ℕ

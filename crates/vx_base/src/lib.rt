@@ -3,10 +3,11 @@
 //!
 //! It stands on the kit alone. To the crates above it gives `Shelf` and `Sink` with what each answer tells,
 //! `write_text`, which writes all of a text or a prefix of it where the sink's count of faults rose, and the
-//! shelves and sinks in memory that tests run on.
+//! shelves and sinks in memory that tests run on, and `push_hex`, which writes hexadecimal digits.
 #![tactic(auto)]
 
 mod bytes;
+mod hex;
 mod machine;
 mod memory_shelf;
 mod memory_sink;
@@ -21,6 +22,7 @@ mod tests;
 mod text;
 
 pub use bytes::Bytes;
+pub use hex::push_hex;
 pub use machine::{Fault, Want};
 pub use memory_shelf::{MemShelf, NamedFile, SureShelf};
 pub use memory_sink::MemSink;

@@ -1,4 +1,3 @@
-pub mod Hex
 pub mod Listed
 pub mod Listings
 pub mod Written

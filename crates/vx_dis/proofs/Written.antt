@@ -3,9 +3,9 @@ use Rattle.std.proofs.Common.{◌≡◌, ℕ, ◌+◌, ◌≤◌, List, [], ◌+
 use Rattle.std.proofs.Math.Seq.{take-append-add}
 use Rattle.std.proofs.lemmas.List.{take-append-le}
 use Rattle.std.specs.Prelude.{Option, Some, None, IfSome, Result, Ok, Err, IfErr, IsErrAnd}
-use Rattle.vx_base.specs.Sink.{SinkState, IsWritten, IsCutOff}
+use Rattle.vx_base.specs.Sink.{SinkState, IsWritten, IsBegun, IsCutOff}
 use Rattle.vx_base.specs.Faults.{Rises}
-use Rattle.vx_dis.specs.Written.{IsBegun, Stops}
+use Rattle.vx_dis.specs.Written.{Stops}
 use Rattle.vx_dis.specs.declared.listing.ListingFault.{ListingFault}
 use Rattle.vx_dis.specs.declared.listing.ListingFault.TheVariants.{Write, NoMemory}
 

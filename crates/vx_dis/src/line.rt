@@ -1,39 +1,19 @@
 ghost use Rattle.std.specs.Prelude.{◌≡◌, ◌<◌, ◌++◌, IfOk, OnOk, codes, decimal, map, string_bytes};
 ghost use Rattle.std.specs.Fmt.{signed_decimal};
 ghost use Rattle.vx_decode.specs.Encoded.{IsValid};
-ghost use Rattle.vx_source.specs.Lines.{hex_digit, hex_digits, instr_line, line_of, listed, word_line};
+ghost use Rattle.vx_source.specs.Lines.{instr_line, line_of, listed, word_line};
 ghost use Rattle.vx_source.specs.Names.{register_name};
 ghost use Rattle.vx_source.specs.Operands.{control_text, operand_text};
 
 use std::alloc::{AllocError, Global};
 use std::fmt::Write;
-use vx_base::Text;
+use vx_base::{Text, push_hex};
 use vx_decode::{Instr, decode};
 use vx_rows::name_of;
 use vx_source::{OperandKind, control_name, operand_kinds, register_name};
 
 /// How many bytes of room a line begins with, of which few need more.
 const LINE_ROOM: usize = 32;
-
-/// The hexadecimal digit, 0 to 9 and a to f, of a number below 16.
-fn hex_digit(n: u8) -> u8
-    requires { n < 16 }
-    ensures value { result ≡ hex_digit n }
-    ensures ascii { result < 128 }
-{
-    if n < 10 { b'0' + n } else { b'a' - 10 + n }
-}
-
-/// Appends the last `count` hexadecimal digits of a number.
-fn push_hex(text: &mut String, count: u32, n: u32) -> Result<(), AllocError>
-    ensures { OnOk result (string_bytes text.new ≡ string_bytes text.old ++ hex_digits count n) }
-{
-    if count > 0 {
-        push_hex(text, count - 1, n / 16)?;
-        text.push(char::from(hex_digit((n % 16) as u8)))?;
-    }
-    Ok(())
-}
 
 /// Appends a number.
 fn push_number(text: &mut String, number: i64) -> Result<(), AllocError>
@@ -117,7 +97,7 @@ fn push_word(text: &mut String, word: u32) -> Result<(), AllocError>
     ensures { OnOk result (string_bytes text.new ≡ string_bytes text.old ++ word_line word) }
 {
     text.push_str(".word 0x")?;
-    push_hex(text, 8, word)
+    push_hex(text, 8, u64::from(word))
 }
 
 /// Appends the canonical line of a word.

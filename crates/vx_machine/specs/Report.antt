@@ -1,20 +1,12 @@
 -- The report's bytes. This project's own.
-use Rattle.std.specs.Prelude.{ℕ, zero, suc, ◌+◌, ◌/◌, ◌%◌, nat_lt, List, [], ◌∷◌, ◌++◌, length, if◌then◌else◌, codes, decimal}
+use Rattle.std.specs.Prelude.{ℕ, zero, suc, ◌+◌, List, [], ◌∷◌, ◌++◌, length, codes, decimal}
 use Rattle.std.specs.Fmt.{signed_decimal}
+use Rattle.vx_base.specs.Hex.{hex_digits}
 use Rattle.vx_words.specs.Lines.{line}
 use Rattle.vx_machine.specs.Accounts.{Account, Standing}
 use Rattle.vx_machine.specs.Accounts.Standing.{Exited, Faulted, Stopped}
 use Rattle.vx_machine.specs.declared.stop.Stop.{Stop}
 use Rattle.vx_machine.specs.declared.stop.Stop.TheVariants.{Done, Spent}
-
--- 0 to 9 and a to f
-abbrev pub hex_digit : ℕ → ℕ
-hex_digit n = if nat_lt n 10 then 48 + n else 87 + n
-
--- the last so many hexadecimal digits of n
-unfoldable pub hex_digits : ℕ → ℕ → List ℕ
-hex_digits zero n = []
-hex_digits (suc count) n = hex_digits count (n / 16) ++ hex_digit (n % 16) ∷ []
 
 abbrev pub hex : ℕ → List ℕ
 hex n = codes "0x" ++ hex_digits 16 n

@@ -1,5 +1,6 @@
 -- The canonical line of a word. This project's own.
-use Rattle.std.specs.Prelude.{ℕ, zero, suc, ◌+◌, ◌/◌, ◌%◌, nat_lt, List, [], ◌∷◌, ◌++◌, map, if◌then◌else◌, codes, Option, Some, None}
+use Rattle.std.specs.Prelude.{ℕ, List, [], ◌∷◌, ◌++◌, map, codes, Option, Some, None}
+use Rattle.vx_base.specs.Hex.{hex_digits}
 use Rattle.vx_rows.specs.Names.{mnemonic}
 use Rattle.vx_rows.specs.Table.{shape_of}
 use Rattle.vx_decode.specs.Decoded.{decoded}
@@ -14,15 +15,6 @@ listed separator (text ∷ texts) = separator ++ text ++ listed (codes ", ") tex
 -- the line of an instruction: its mnemonic, and its operands behind a space
 abbrev pub instr_line : Instr → List ℕ
 instr_line i = mnemonic i.op i.nf ++ listed (codes " ") (map (operand_text i) (operand_kinds (shape_of i.op)))
-
--- 0 to 9 and a to f
-abbrev pub hex_digit : ℕ → ℕ
-hex_digit n = if nat_lt n 10 then 48 + n else 87 + n
-
--- the last so many hexadecimal digits of n
-unfoldable pub hex_digits : ℕ → ℕ → List ℕ
-hex_digits zero n = []
-hex_digits (suc count) n = hex_digits count (n / 16) ++ hex_digit (n % 16) ∷ []
 
 -- the line of a word that is no instruction
 abbrev pub word_line : ℕ → List ℕ

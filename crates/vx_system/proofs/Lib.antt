@@ -1,5 +1,4 @@
 pub mod Episodes
-pub mod Hex
 pub mod Quiet
 pub mod Rounds
 pub mod Services

@@ -1,11 +1,12 @@
 ghost use Rattle.std.specs.Prelude.{◌≡◌, ◌+◌, ◌<◌, ◌++◌, ◌∷◌, [], codes, decimal, length, IfOk, OnOk, Some, None, string_bytes};
+ghost use Rattle.vx_base.specs.Hex.{hex_digits};
 ghost use Rattle.vx_machine.specs.Accounts.{Account, standing_of};
 ghost use Rattle.vx_system.specs.Told.{told};
 ghost use Rattle.vx_words.specs.Lines.{line};
-ghost use Rattle.vx_machine.specs.Report.{standing_words, process_text, stop_word, hex_digit, hex_digits};
+ghost use Rattle.vx_machine.specs.Report.{standing_words, process_text, stop_word};
 
 use std::alloc::{AllocError, Global};
-use vx_base::Fault;
+use vx_base::{Fault, push_hex};
 use vx_flat::End;
 use vx_machine::Stop;
 
@@ -20,22 +21,13 @@ pub struct ProcessReport<'a> {
     pub output: &'a [u8],
 }
 
-/// The hexadecimal digit, 0 to 9 and a to f, of a number below 16.
-fn hex_digit(n: u8) -> u8
-    requires { n < 16 }
-    ensures { result ≡ hex_digit n }
+/// Appends the 16 hexadecimal digits of a number.
+fn push_number(alloc: Global, text: &mut Vec<u8>, n: u64) -> Result<(), AllocError>
+    ensures { OnOk result (text.new.items ≡ text.old.items ++ hex_digits 16 n) }
 {
-    if n < 10 { b'0' + n } else { b'a' - 10 + n }
-}
-
-/// Appends the last `count` hexadecimal digits of a number.
-fn push_hex(text: &mut Vec<u8>, count: u32, n: u64) -> Result<(), AllocError>
-    ensures { OnOk result (text.new.items ≡ text.old.items ++ hex_digits count n) }
-{
-    if count > 0 {
-        push_hex(text, count - 1, n / 16)?;
-        text.push(hex_digit((n % 16) as u8))?;
-    }
+    let mut digits = String::new(alloc);
+    push_hex(&mut digits, 16, n)?;
+    text.extend_from_slice(digits.as_bytes())?;
     Ok(())
 }
 
@@ -69,9 +61,9 @@ fn push_faulted(
     let cause = fault.cause;
     let start = format!(in alloc; "process {number}: faulted cause {cause} pc 0x")?;
     text.extend_from_slice(start.as_bytes())?;
-    push_hex(text, 16, pc)?;
+    push_number(alloc, text, pc)?;
     push_words(text, " tval 0x")?;
-    push_hex(text, 16, fault.tval)?;
+    push_number(alloc, text, fault.tval)?;
     let vstart = fault.vstart;
     let end = format!(in alloc; " vstart {vstart}\n")?;
     text.extend_from_slice(end.as_bytes())?;
@@ -84,7 +76,7 @@ fn push_stopped(alloc: Global, text: &mut Vec<u8>, number: u32, pc: u64) -> Resu
 {
     let start = format!(in alloc; "process {number}: stopped pc 0x")?;
     text.extend_from_slice(start.as_bytes())?;
-    push_hex(text, 16, pc)?;
+    push_number(alloc, text, pc)?;
     let vstart = 0u32;
     let end = format!(in alloc; " vstart {vstart}\n")?;
     text.extend_from_slice(end.as_bytes())?;

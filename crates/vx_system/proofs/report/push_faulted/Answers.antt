@@ -6,9 +6,9 @@ returns c =
     rw c.in_ok-extend_from_slice-2.ensures.items
     (rw c.as_bytes-2.ensures.value
     (rw c.in_ok-end.ensures.ok
-    (rw c.in_ok-push_hex-2.ensures
+    (rw c.in_ok-push_number-2.ensures
     (rw c.in_ok-push_words.ensures
-    (rw c.in_ok-push_hex.ensures
+    (rw c.in_ok-push_number.ensures
     (rw c.in_ok-extend_from_slice.ensures.items
     (rw c.as_bytes.ensures.value
     (rw c.in_ok-start.ensures.ok

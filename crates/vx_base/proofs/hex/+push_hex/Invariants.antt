@@ -1,4 +1,4 @@
-use Rattle.vx_system.proofs.report.+push_hex.Given as goal
+use Rattle.vx_base.proofs.hex.+push_hex.Given as goal
 
 abbrev pub decreases-push_hex : goal.decreases-push_hex
 decreases-push_hex l = l.count

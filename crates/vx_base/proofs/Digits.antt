@@ -1,6 +1,6 @@
 -- Hexadecimal digits, one more at a time.
 use Rattle.std.proofs.Common.{◌≡◌, ℕ, zero, suc, ◌-◌, ◌/◌, ◌%◌, ◌<◌, ◌≤◌, [], ◌∷◌, ◌++◌, refl, ap, arith}
-use Rattle.vx_source.specs.Lines.{hex_digit, hex_digits}
+use Rattle.vx_base.specs.Hex.{hex_digit, hex_digits}
 
 pub hex_digits-more : (count n : ℕ) → 0 < count → hex_digits (count - 1) (n / 16) ++ hex_digit (n % 16) ∷ [] ≡ hex_digits count n
 unfolding hex_digits

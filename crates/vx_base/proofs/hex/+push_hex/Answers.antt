@@ -1,6 +1,6 @@
 use Rattle.std.proofs.Common.{◌≡◌, ◌<◌, ◌++◌, ◌∙◌, ap, [], ◌∷◌, sym, append_assoc, append-nil, string_bytes, arith}
-use Rattle.vx_dis.proofs.Hex.{hex_digits-more, hex_digits-none}
-use Rattle.vx_dis.proofs.line.+push_hex.Goals as goal
+use Rattle.vx_base.proofs.Digits.{hex_digits-more, hex_digits-none}
+use Rattle.vx_base.proofs.hex.+push_hex.Goals as goal
 
 pub returns-in_ok-push : goal.returns-in_ok-push
 returns-in_ok-push t c =
