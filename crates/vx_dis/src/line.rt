@@ -12,7 +12,7 @@ use vx_decode::{Instr, decode};
 use vx_rows::name_of;
 use vx_source::{OperandKind, control_name, operand_kinds, register_name};
 
-/// How many bytes of room a line begins with, of which few need more.
+/// How many bytes of room a line begins with. It grows where that is too little.
 const LINE_ROOM: usize = 32;
 
 /// Appends a number.
@@ -65,7 +65,7 @@ fn push_operand(text: &mut String, instr: &Instr, kind: OperandKind) -> Result<(
         OperandKind::Target(_) => push_number(text, instr.imm),
         OperandKind::Address => push_address(text, instr.imm, instr.rs1),
         OperandKind::Control => push_control(text, instr.imm.unsigned_abs()),
-        OperandKind::Number => push_number(text, i64::from(instr.rs1)),
+        OperandKind::SourceNumber => push_number(text, i64::from(instr.rs1)),
     }
 }
 

@@ -10,7 +10,7 @@ use vx_base::{Sink, WriteFault, write_text};
 /// How many bytes of a file are listed at a time.
 const PIECE: usize = 4096;
 
-/// How many bytes of room their lines begin with: 24 for each word.
+/// How many bytes of room their lines begin with: 24 for each word. It grows where that is too little.
 const LINES_ROOM: usize = 24 * 1024;
 
 /// Why a listing stopped.

@@ -1,12 +1,13 @@
--- The operands of a line. Their order is that of the assembly syntax of the RISC-V Unprivileged ISA 20191213, chapters 2
--- and 9; that of `jalr` and `fence` is this project's own: as of any row with such fields.
+-- The operands of a line: which, in what order, and how each is written. The order is that of the assembly syntax of the
+-- RISC-V Unprivileged ISA 20191213, chapters 2 and 9, but for `jalr` and `fence`, whose lines have the operands of any
+-- row with such fields. That numbers are decimal is this project's own.
 use Rattle.std.specs.Prelude.{ℕ, List, [], ◌∷◌, ◌++◌, codes, decimal, unwrap_or, unsigned_abs}
 use Rattle.std.specs.Fmt.{signed_decimal}
 use Rattle.vx_rows.specs.declared.row.Shape.{Shape}
 use Rattle.vx_rows.specs.declared.row.Shape.TheVariants as shape
 use Rattle.vx_decode.specs.declared.instr.Instr.{Instr}
 use Rattle.vx_source.specs.declared.operand.OperandKind.{OperandKind}
-use Rattle.vx_source.specs.declared.operand.OperandKind.TheVariants.{Destination, FirstSource, SecondSource, Signed, Unsigned, Target, Address, Control, Number}
+use Rattle.vx_source.specs.declared.operand.OperandKind.TheVariants.{Destination, FirstSource, SecondSource, Signed, Unsigned, Target, Address, Control, SourceNumber}
 use Rattle.vx_source.specs.Names.{register_name, control_name}
 
 -- the operands of a row of each shape, in order
@@ -22,14 +23,14 @@ operand_kinds shape.Upper = Destination ∷ Unsigned 20 ∷ []
 operand_kinds shape.Jump = Destination ∷ Target 21 ∷ []
 operand_kinds shape.Fence = Destination ∷ FirstSource ∷ Unsigned 12 ∷ []
 operand_kinds shape.Csr = Destination ∷ Control ∷ FirstSource ∷ []
-operand_kinds shape.CsrNumber = Destination ∷ Control ∷ Number ∷ []
+operand_kinds shape.CsrNumber = Destination ∷ Control ∷ SourceNumber ∷ []
 operand_kinds shape.Fixed = []
 
 -- the text of the control register of that number: its name, or else the number
 abbrev pub control_text : ℕ → List ℕ
 control_text n = unwrap_or (control_name n) (decimal n)
 
--- the text of an instruction's operand of each kind; numbers are decimal
+-- the text of an instruction's operand of each kind. A control register's number isn't negative
 abbrev pub operand_text : Instr → OperandKind → List ℕ
 operand_text i Destination = register_name i.rd
 operand_text i FirstSource = register_name i.rs1
@@ -39,4 +40,4 @@ operand_text i (Unsigned width) = signed_decimal i.imm
 operand_text i (Target width) = signed_decimal i.imm
 operand_text i Address = signed_decimal i.imm ++ codes "(" ++ register_name i.rs1 ++ codes ")"
 operand_text i Control = control_text (unsigned_abs i.imm)
-operand_text i Number = decimal i.rs1
+operand_text i SourceNumber = decimal i.rs1

@@ -23,7 +23,7 @@ pub enum OperandKind {
     /// The control register that the immediate numbers, a number without sign of 12 bits.
     Control,
     /// The number of 5 bits that stands in the place of `rs1`.
-    Number,
+    SourceNumber,
 }
 
 /// The operands of a row of this shape, in the order of its line.
@@ -31,7 +31,8 @@ pub fn operand_kinds(shape: Shape) -> &'static [OperandKind]
     ensures { result.now ≡ operand_kinds shape }
 {
     use OperandKind::{
-        Address, Control, Destination, FirstSource, Number, SecondSource, Signed, Target, Unsigned,
+        Address, Control, Destination, FirstSource, SourceNumber, SecondSource, Signed, Target,
+        Unsigned,
     };
     match shape {
         Shape::Registers => &[Destination, FirstSource, SecondSource],
@@ -45,7 +46,7 @@ pub fn operand_kinds(shape: Shape) -> &'static [OperandKind]
         Shape::Jump => &[Destination, Target(21)],
         Shape::Fence => &[Destination, FirstSource, Unsigned(12)],
         Shape::Csr => &[Destination, Control, FirstSource],
-        Shape::CsrNumber => &[Destination, Control, Number],
+        Shape::CsrNumber => &[Destination, Control, SourceNumber],
         Shape::Fixed => &[],
     }
 }
