@@ -1,7 +1,7 @@
 -- The claim: what each answer of the program's call says. This project's own.
 use Rattle.std.specs.Prelude.{◌≡◌, ℕ, ◌⊎◌, List, [], ◌∷◌, Some, None}
 use Rattle.vx_base.specs.Shelf.{ShelfState, AsksFor, Reads, FailsToRead, IsTooLong, IsUnasked}
-use Rattle.vx_base.specs.Sink.{SinkState, IsWritten, IsCutOff}
+use Rattle.vx_base.specs.Sink.{SinkState, IsWritten, IsBegun, IsCutOff}
 use Rattle.vx_flat.specs.Image.{Image, raw_image, raw_fault}
 use Rattle.vx_flat.specs.declared.fault.ImageFault.{ImageFault}
 use Rattle.vx_flat.specs.declared.fault.ImageFault.TheVariants as fault
@@ -10,10 +10,11 @@ use Rattle.vx_machine.specs.Machine.{Settings, settings_for, machine, stop_of}
 use Rattle.vx_machine.specs.Report.{report}
 use Rattle.vx_machine.specs.declared.stop.Stop.{Stop}
 use Rattle.vx_machine.specs.declared.stop.Stop.TheVariants as stop
+use Rattle.vx_source.specs.Listing.{listing}
 use Rattle.vx_words.specs.Notes.{FileFault, file_limit, bad_words, read_failed, bad_image, write_failed, no_memory}
 use Rattle.vx_words.specs.Notes.FileFault.{TooLong, RawLength, TooManyPages}
-use Rattle.vx_words.specs.Words.{Given, AskFor, AskForFile, AreOutside, IsFirstBad}
-use Rattle.vx_words.specs.Words.Command.{Run}
+use Rattle.vx_words.specs.Words.{Given, AskFor, AskForFile, AskToRun, AreOutside, IsFirstBad}
+use Rattle.vx_words.specs.Words.Command.{Run, Dis}
 use Rattle.vx_words.specs.declared.status.Status.{Status}
 use Rattle.vx_words.specs.declared.status.Status.TheVariants.{Done, Usage, ReadFault, BadImage, WriteFault, Spent, NoMemory}
 
@@ -30,6 +31,11 @@ pub record Headline (settings : Settings) (image : Image) (stop : Stop) (text : 
   pub stops : stop_of settings (machine settings image actions) ≡ Some stop
   pub tells : text ≡ report (account_of (machine settings image actions) ∷ []) (machine settings image actions).clock stop
   pub values : IsTrueOf image (account_of (machine settings image actions))
+
+-- the status of a run that stopped so
+abbrev pub status_of : Stop → Status
+status_of stop.Done = Done
+status_of stop.Spent = Spent
 
 -- the note grew by this line, or by a prefix of it where its count of faults rose
 abbrev pub IsNoted : Devices → Devices → List ℕ → Type 0
@@ -52,62 +58,83 @@ pub record HasReadFault (words : List (List ℕ)) (before after : Devices) : Typ
   pub out : after.out ≡ before.out
   pub note : IsNoted before after (read_failed name)
 
--- the bytes have the fault
-abbrev pub HasBytesFault : ShelfState → ShelfState → List ℕ → ImageFault → Type 0
-HasBytesFault before after name fault = (bytes : List ℕ) × Reads before after name file_limit bytes × (raw_fault bytes ≡ Some fault)
+-- the words ask to run the image of this name, and its bytes have the fault
+abbrev pub HasBytesFault : List (List ℕ) → Devices → Devices → List ℕ → ImageFault → Type 0
+HasBytesFault words before after name fault =
+    AskToRun words name × ((bytes : List ℕ) × Reads before.shelf after.shelf name file_limit bytes × (raw_fault bytes ≡ Some fault))
 
--- the file of that name has the fault
-abbrev pub HasFault : ShelfState → ShelfState → List ℕ → FileFault → Type 0
-HasFault before after name TooLong = IsTooLong before after name file_limit
-HasFault before after name (RawLength n) = HasBytesFault before after name (fault.RawLength n)
-HasFault before after name (TooManyPages n) = HasBytesFault before after name (fault.TooManyPages n)
+-- the words ask for a command on the file of this name, and it has the fault
+abbrev pub HasFault : List (List ℕ) → Devices → Devices → List ℕ → FileFault → Type 0
+HasFault words before after name TooLong = AskForFile words name × IsTooLong before.shelf after.shelf name file_limit
+HasFault words before after name (RawLength n) = HasBytesFault words before after name (fault.RawLength n)
+HasFault words before after name (TooManyPages n) = HasBytesFault words before after name (fault.TooManyPages n)
 
--- the file is no image
+-- the file is refused for a fault
 pub record HasBadImage (words : List (List ℕ)) (before after : Devices) : Type 0 where
   pub name : List ℕ
-  pub asks : AskForFile words name
   pub fault : FileFault
-  pub cause : HasFault before.shelf after.shelf name fault
+  pub cause : HasFault words before after name fault
   pub out : after.out ≡ before.out
   pub note : IsNoted before after (bad_image name fault)
 
--- the words ask for a run; the file is an image, and it ran and stopped so, with this report
-pub record HasRun (words : List (List ℕ)) (before after : Devices) (stop : Stop) (text : List ℕ) : Type 0 where
+-- the words ask for a run; the file is an image, and it ran and stopped with this status and this report
+pub record HasRun (words : List (List ℕ)) (before after : Devices) (status : Status) (text : List ℕ) : Type 0 where
   pub givens : List Given
   pub name : List ℕ
   pub asks : AskFor words (Run givens name)
   pub bytes : List ℕ
   pub read : Reads before.shelf after.shelf name file_limit bytes
   pub is_image : raw_fault bytes ≡ None
+  pub stop : Stop
   pub headline : Headline (settings_for givens) (raw_image bytes) stop text
+  pub answers : status ≡ status_of stop
 
--- the report was written whole
-pub record HasReported (words : List (List ℕ)) (before after : Devices) (stop : Stop) : Type 0 where
+-- the words ask for a file's listing, and this is it
+pub record HasListed (words : List (List ℕ)) (before after : Devices) (status : Status) (text : List ℕ) : Type 0 where
+  pub name : List ℕ
+  pub asks : AskFor words (Dis name)
+  pub bytes : List ℕ
+  pub read : Reads before.shelf after.shelf name file_limit bytes
+  pub lists : text ≡ listing bytes
+  pub answers : status ≡ Done
+
+-- the command's job is done with this status, and its text is this
+abbrev pub HasText : List (List ℕ) → Devices → Devices → Status → List ℕ → Type 0
+HasText words before after status text = HasRun words before after status text ⊎ HasListed words before after status text
+
+-- the text was written whole
+pub record HasTold (words : List (List ℕ)) (before after : Devices) (status : Status) : Type 0 where
   pub text : List ℕ
-  pub run : HasRun words before after stop text
+  pub job : HasText words before after status text
   pub out : IsWritten before.out after.out text
   pub note : after.note ≡ before.note
 
--- a fault of `out` came in this call: a prefix of the report was written
+-- a fault of `out` came in this call: a prefix of the text was written
 pub record HasWriteFault (words : List (List ℕ)) (before after : Devices) : Type 0 where
-  pub stop : Stop
+  pub status : Status
   pub text : List ℕ
-  pub run : HasRun words before after stop text
+  pub job : HasText words before after status text
   pub out : IsCutOff before.out after.out text
   pub note : IsNoted before after write_failed
 
--- memory was wanting: at most the words' file was asked for, and nothing was put on `out`
+-- a prefix of the listing was written
+pub record HasBegun (words : List (List ℕ)) (before after : Devices) : Type 0 where
+  pub text : List ℕ
+  pub job : HasListed words before after Done text
+  pub out : IsBegun before.out after.out text
+
+-- memory was wanting: at most the words' file was asked for, and nothing was put on `out`, or a prefix of a listing
 pub record HasNoMemory (words : List (List ℕ)) (before after : Devices) : Type 0 where
   pub shelf : IsUnasked before.shelf after.shelf ⊎ ((name : List ℕ) × AskForFile words name × AsksFor before.shelf after.shelf name)
-  pub out : after.out ≡ before.out
+  pub out : (after.out ≡ before.out) ⊎ HasBegun words before after
   pub note : IsNoted before after no_memory
 
 -- what each status says
 abbrev pub Claims : List (List ℕ) → Devices → Devices → Status → Type 0
-Claims words before after Done = HasReported words before after stop.Done
+Claims words before after Done = HasTold words before after Done
 Claims words before after Usage = HasBadWords words before after
 Claims words before after ReadFault = HasReadFault words before after
 Claims words before after BadImage = HasBadImage words before after
 Claims words before after WriteFault = HasWriteFault words before after
-Claims words before after Spent = HasReported words before after stop.Spent
+Claims words before after Spent = HasTold words before after Spent
 Claims words before after NoMemory = HasNoMemory words before after

@@ -1,26 +1,26 @@
 -- What each way through the call claims.
-use Rattle.std.proofs.Common.{◌≡◌, ℕ, List, refl, subst, inl, inr, ◌≤◌, ◌⊎◌, arith}
+use Rattle.std.proofs.Common.{◌≡◌, ℕ, List, refl, sym, ap, subst, inl, inr, ◌≤◌, ◌⊎◌, arith}
 use Rattle.std.specs.Prelude.{Result, Ok, Err, IfOk, MatchResult}
-use Rattle.vx_base.specs.Shelf.{ShelfState, AsksFor, IsUnasked}
+use Rattle.vx_base.specs.Shelf.{ShelfState, AsksFor, Reads, IsUnasked}
 use Rattle.vx_base.specs.Sink.{SinkState}
 use Rattle.vx_base.specs.declared.options.Options.{Options}
 use Rattle.vx_flat.specs.Image.{raw_image}
-use Rattle.vx_machine.specs.Claim.{Devices, Headline, Claims, HasRun, HasFault, HasNoMemory}
+use Rattle.vx_machine.specs.Claim.{Devices, Headline, Claims, HasRun, HasListed, status_of}
 use Rattle.vx_machine.specs.Machine.{Settings}
-use Rattle.vx_machine.specs.declared.stop.Stop.{Stop}
 use Rattle.vx_read.specs.Read.{AreRead}
 use Rattle.vx_read.specs.declared.run_words.RunWords.{RunWords}
 use Rattle.vx_system.specs.Runs.{settings_of}
 use Rattle.vx_top.proofs.Settled.{AreFor, settled}
-use Rattle.vx_top.specs.Files.{RanFile, Refuses, TellsRefusal, TellsReport, fault_of}
+use Rattle.vx_source.specs.Listing.{listing}
+use Rattle.vx_top.specs.Files.{RanFile, RefusesFile, Refuses, TellsRefusal, TellsReport, TellsListing, fault_of}
 use Rattle.vx_top.specs.Noted.{Noted, NotesWant, Answers}
-use Rattle.vx_top.specs.declared.refusal.FileFault.{FileFault}
 use Rattle.vx_top.specs.declared.refusal.FileFault.TheVariants.{TooLong, RawLength, TooManyPages}
 use Rattle.vx_top.specs.declared.refusal.Refusal.{Refusal}
 use Rattle.vx_top.specs.declared.refusal.Refusal.TheVariants as refusal
 use Rattle.vx_top.specs.declared.run.Report.{Report}
-use Rattle.vx_words.specs.Notes.{bad_words}
-use Rattle.vx_words.specs.Words.{AreOutside, IsFirstBad}
+use Rattle.vx_words.specs.Notes.{file_limit, bad_words}
+use Rattle.vx_words.specs.Words.{AskFor, AskForFile, AreOutside, IsFirstBad}
+use Rattle.vx_words.specs.Words.Command.{Run, Dis}
 use Rattle.vx_words.specs.declared.status.Status.{Status}
 use Rattle.vx_words.specs.declared.status.Status.TheVariants.{Done, Usage, ReadFault, BadImage, WriteFault, Spent, NoMemory}
 
@@ -35,18 +35,20 @@ Claims-usage words shelf out note note' index answer bad (inl told) =
     rw told.0 (record { outside = bad.0; index = index; first_bad = bad.1; shelf = refl; out = refl; note = told.1 })
 Claims-usage words shelf out note note' index answer bad (inr want) =
     let stays : shelf.faults ≤ shelf.faults = omega arith in
-    rw want.0 (record { shelf = inl (record { files = refl; asked = refl; faults = stays }); out = refl; note = want.1 })
+    rw want.0 (record { shelf = inl (record { files = refl; asked = refl; faults = stays }); out = inl refl; note = want.1 })
 
 -- the words ask for the run that was made
-pub HasRun-from : (words : List (List ℕ)) (run : RunWords) (read : AreRead words run) (options : Options) → AreFor options run → (before after : Devices) (report : Report) → RanFile (settings_of options) before.shelf after.shelf run.name.now report → HasRun words before after report.stop report.text
-HasRun-from words run read options for before after report ran = record {
+pub HasRun-from : (words : List (List ℕ)) (run : RunWords) (read : AreRead words run) (options : Options) → AreFor options run → (before after : Devices) (report : Report) (status : Status) → status ≡ status_of report.stop → RanFile (settings_of options) before.shelf after.shelf run.name.now report → HasRun words before after status report.text
+HasRun-from words run read options for before after report status answers ran = record {
   givens = read.givens;
   name = run.name.now;
   asks = read.asked;
   bytes = ran.bytes;
   read = ran.read;
   is_image = ran.ran.is_image;
+  stop = report.stop;
   headline = subst (λ (s : Settings). Headline s (raw_image ran.bytes) report.stop report.text) (settled words run read options for) ran.ran.headline;
+  answers = answers;
 }
 
 -- the run was made, and its report was told
@@ -57,46 +59,97 @@ Claims-report words run read options for before after report BadImage ran told =
 Claims-report words run read options for before after report NoMemory ran told = elim told [ ]
 Claims-report words run read options for before after report Done ran told = record {
   text = report.text;
-  run = subst (λ (s : Stop). HasRun words before after s report.text) told.0 (HasRun-from words run read options for before after report ran);
+  job = inl (HasRun-from words run read options for before after report Done (sym (ap status_of told.0)) ran);
   out = told.1;
   note = told.2;
 }
 Claims-report words run read options for before after report Spent ran told = record {
   text = report.text;
-  run = subst (λ (s : Stop). HasRun words before after s report.text) told.0 (HasRun-from words run read options for before after report ran);
+  job = inl (HasRun-from words run read options for before after report Spent (sym (ap status_of told.0)) ran);
   out = told.1;
   note = told.2;
 }
 Claims-report words run read options for before after report WriteFault ran told = record {
-  stop = report.stop;
+  status = status_of report.stop;
   text = report.text;
-  run = HasRun-from words run read options for before after report ran;
+  job = inl (HasRun-from words run read options for before after report (status_of report.stop) refl ran);
   out = told.0;
   note = told.1;
 }
 
 -- memory was wanting for the note of a file that was asked for
-HasNoMemory-asked : (words : List (List ℕ)) (run : RunWords) (read : AreRead words run) (before after : Devices) → AsksFor before.shelf after.shelf run.name.now → after.out ≡ before.out → (answer : Status) → NotesWant before.note after.note answer → Claims words before after answer
-HasNoMemory-asked words run read before after asks out answer want =
-    rw want.0 (record { shelf = inr (run.name.now, (read.givens, read.asked), asks); out = out; note = want.1 })
+HasNoMemory-asked : (words : List (List ℕ)) (name : List ℕ) → AskForFile words name → (before after : Devices) → AsksFor before.shelf after.shelf name → after.out ≡ before.out → (answer : Status) → NotesWant before.note after.note answer → Claims words before after answer
+HasNoMemory-asked words name ask before after asks out answer want =
+    rw want.0 (record { shelf = inr (name, ask, asks); out = inl out; note = want.1 })
 
--- a file with a fault was asked for
-AsksFor-fault : (before after : ShelfState) (name : List ℕ) (fault : FileFault) → HasFault before after name (fault_of fault) → AsksFor before after name
-AsksFor-fault before after name TooLong cause = cause.asks
-AsksFor-fault before after name (RawLength n) cause = cause.1.asks
-AsksFor-fault before after name (TooManyPages n) cause = cause.1.asks
+-- a file can't be read, and that was told
+Claims-unread : (words : List (List ℕ)) (name : List ℕ) → AskForFile words name → (before after : Devices) (refusal : Refusal) (answer : Status) → after.out ≡ before.out → RefusesFile before.shelf after.shelf name refusal → TellsRefusal before.note after.note name refusal answer → Claims words before after answer
+Claims-unread words name ask before after refusal.ReadFault answer out cause (inl told) =
+    rw told.0 (record { name = name; asks = ask; read = cause; out = out; note = told.1 })
+Claims-unread words name ask before after refusal.ReadFault answer out cause (inr want) =
+    HasNoMemory-asked words name ask before after cause.asks out answer want
+Claims-unread words name ask before after (refusal.BadImage TooLong) answer out cause (inl told) =
+    rw told.0 (record { name = name; fault = fault_of TooLong; cause = (ask, cause); out = out; note = told.1 })
+Claims-unread words name ask before after (refusal.BadImage TooLong) answer out cause (inr want) =
+    HasNoMemory-asked words name ask before after cause.asks out answer want
+Claims-unread words name ask before after (refusal.BadImage (RawLength n)) answer out cause told = elim cause [ ]
+Claims-unread words name ask before after (refusal.BadImage (TooManyPages n)) answer out cause told = elim cause [ ]
+Claims-unread words name ask before after refusal.NoMemory answer out (inl unasked) told =
+    rw told.0 (record { shelf = inl unasked; out = inl out; note = told.1 })
+Claims-unread words name ask before after refusal.NoMemory answer out (inr asks) told =
+    HasNoMemory-asked words name ask before after asks out answer told
 
--- the file gave no report, and that was told
+-- the words ask for a run of their file
+run_asks : (words : List (List ℕ)) (run : RunWords) (read : AreRead words run) → AskForFile words run.name.now
+run_asks words run read = (Run read.givens run.name.now, read.asked, refl)
+
+-- the image gave no report, and that was told
 pub Claims-refusal : (words : List (List ℕ)) (run : RunWords) (read : AreRead words run) (before after : Devices) (refusal : Refusal) (answer : Status) → after.out ≡ before.out → Refuses before.shelf after.shelf run.name.now refusal → TellsRefusal before.note after.note run.name.now refusal answer → Claims words before after answer
-Claims-refusal words run read before after refusal.ReadFault answer out cause (inl told) =
-    rw told.0 (record { name = run.name.now; asks = (read.givens, read.asked); read = cause; out = out; note = told.1 })
-Claims-refusal words run read before after refusal.ReadFault answer out cause (inr want) =
-    HasNoMemory-asked words run read before after cause.asks out answer want
-Claims-refusal words run read before after (refusal.BadImage fault) answer out cause (inl told) =
-    rw told.0 (record { name = run.name.now; asks = (read.givens, read.asked); fault = fault_of fault; cause = cause; out = out; note = told.1 })
-Claims-refusal words run read before after (refusal.BadImage fault) answer out cause (inr want) =
-    HasNoMemory-asked words run read before after (AsksFor-fault before.shelf after.shelf run.name.now fault cause) out answer want
-Claims-refusal words run read before after refusal.NoMemory answer out (inl unasked) told =
-    rw told.0 (record { shelf = inl unasked; out = out; note = told.1 })
-Claims-refusal words run read before after refusal.NoMemory answer out (inr asks) told =
-    HasNoMemory-asked words run read before after asks out answer told
+Claims-refusal words run read before after refusal.ReadFault answer out cause told =
+    Claims-unread words run.name.now (run_asks words run read) before after refusal.ReadFault answer out cause told
+Claims-refusal words run read before after (refusal.BadImage TooLong) answer out cause told =
+    Claims-unread words run.name.now (run_asks words run read) before after (refusal.BadImage TooLong) answer out cause told
+Claims-refusal words run read before after (refusal.BadImage (RawLength n)) answer out cause (inl told) =
+    rw told.0 (record { name = run.name.now; fault = fault_of (RawLength n); cause = ((read.givens, read.asked), cause); out = out; note = told.1 })
+Claims-refusal words run read before after (refusal.BadImage (RawLength n)) answer out cause (inr want) =
+    HasNoMemory-asked words run.name.now (run_asks words run read) before after cause.1.asks out answer want
+Claims-refusal words run read before after (refusal.BadImage (TooManyPages n)) answer out cause (inl told) =
+    rw told.0 (record { name = run.name.now; fault = fault_of (TooManyPages n); cause = ((read.givens, read.asked), cause); out = out; note = told.1 })
+Claims-refusal words run read before after (refusal.BadImage (TooManyPages n)) answer out cause (inr want) =
+    HasNoMemory-asked words run.name.now (run_asks words run read) before after cause.1.asks out answer want
+Claims-refusal words run read before after refusal.NoMemory answer out cause told =
+    Claims-unread words run.name.now (run_asks words run read) before after refusal.NoMemory answer out cause told
+
+-- the file was read, and its listing was told
+pub Claims-listing : (words : List (List ℕ)) (name : List ℕ) (asks : AskFor words (Dis name)) (before after : Devices) (bytes : List ℕ) (answer : Status) → Reads before.shelf after.shelf name file_limit bytes → TellsListing before.out after.out before.note after.note (listing bytes) answer → Claims words before after answer
+Claims-listing words name asks before after bytes Usage read told = elim told [ ]
+Claims-listing words name asks before after bytes ReadFault read told = elim told [ ]
+Claims-listing words name asks before after bytes BadImage read told = elim told [ ]
+Claims-listing words name asks before after bytes Spent read told = elim told [ ]
+Claims-listing words name asks before after bytes Done read told = record {
+  text = listing bytes;
+  job = inr (record { name = name; asks = asks; bytes = bytes; read = read; lists = refl; answers = refl });
+  out = told.0;
+  note = told.1;
+}
+Claims-listing words name asks before after bytes WriteFault read told = record {
+  status = Done;
+  text = listing bytes;
+  job = inr (record { name = name; asks = asks; bytes = bytes; read = read; lists = refl; answers = refl });
+  out = told.0;
+  note = told.1;
+}
+Claims-listing words name asks before after bytes NoMemory read told = record {
+  shelf = inr (name, (Dis name, asks, refl), read.asks);
+  out = inr (record {
+    text = listing bytes;
+    job = record { name = name; asks = asks; bytes = bytes; read = read; lists = refl; answers = refl };
+    out = told.0;
+  });
+  note = told.1;
+}
+
+-- the file to list can't be read, and that was told
+pub Claims-unlisted : (words : List (List ℕ)) (name : List ℕ) (asks : AskFor words (Dis name)) (before after : Devices) (refusal : Refusal) (answer : Status) → after.out ≡ before.out → RefusesFile before.shelf after.shelf name refusal → TellsRefusal before.note after.note name refusal answer → Claims words before after answer
+Claims-unlisted words name asks before after refusal answer out cause told =
+    Claims-unread words name (Dis name, asks, refl) before after refusal answer out cause told

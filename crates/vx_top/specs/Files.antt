@@ -1,11 +1,11 @@
 -- What the reading and the running of an image's file give. This project's own.
 use Rattle.std.specs.Prelude.{◌≡◌, ℕ, ◌⊎◌, List, Some, None}
-use Rattle.vx_base.specs.Shelf.{ShelfState, AsksFor, Reads, FailsToRead, IsUnasked}
-use Rattle.vx_base.specs.Sink.{SinkState, IsWritten, IsCutOff}
+use Rattle.vx_base.specs.Shelf.{ShelfState, AsksFor, Reads, FailsToRead, IsTooLong, IsUnasked}
+use Rattle.vx_base.specs.Sink.{SinkState, IsWritten, IsBegun, IsCutOff}
 use Rattle.vx_flat.specs.Image.{raw_image, raw_fault}
 use Rattle.vx_flat.specs.declared.fault.ImageFault.{ImageFault}
 use Rattle.vx_flat.specs.declared.fault.ImageFault.TheVariants as image
-use Rattle.vx_machine.specs.Claim.{Headline, HasFault}
+use Rattle.vx_machine.specs.Claim.{Headline}
 use Rattle.vx_machine.specs.Machine.{Settings}
 use Rattle.vx_machine.specs.declared.stop.Stop.TheVariants as stop
 use Rattle.vx_top.specs.Noted.{Noted, NotesWant, Answers}
@@ -50,10 +50,24 @@ pub record RanFile (settings : Settings) (before after : ShelfState) (name : Lis
   pub read : Reads before after name notes.file_limit bytes
   pub ran : Ran settings bytes report
 
--- the file of that name is refused for this
+-- the file of that name was read, and its bytes have the fault
+abbrev pub HasBytes : ShelfState → ShelfState → List ℕ → ImageFault → Type 0
+HasBytes before after name fault = (bytes : List ℕ) × Reads before after name notes.file_limit bytes × (raw_fault bytes ≡ Some fault)
+
+-- the file of that name can't be read for this
+abbrev pub RefusesFile : ShelfState → ShelfState → List ℕ → Refusal → Type 0
+RefusesFile before after name ReadFault = FailsToRead before after name
+RefusesFile before after name (BadImage TooLong) = IsTooLong before after name notes.file_limit
+RefusesFile before after name (BadImage (RawLength n)) = ⊥
+RefusesFile before after name (BadImage (TooManyPages n)) = ⊥
+RefusesFile before after name NoMemory = IsUnasked before after ⊎ AsksFor before after name
+
+-- the image of that name is refused for this
 abbrev pub Refuses : ShelfState → ShelfState → List ℕ → Refusal → Type 0
 Refuses before after name ReadFault = FailsToRead before after name
-Refuses before after name (BadImage fault) = HasFault before after name (fault_of fault)
+Refuses before after name (BadImage TooLong) = IsTooLong before after name notes.file_limit
+Refuses before after name (BadImage (RawLength n)) = HasBytes before after name (image.RawLength n)
+Refuses before after name (BadImage (TooManyPages n)) = HasBytes before after name (image.TooManyPages n)
 Refuses before after name NoMemory = IsUnasked before after ⊎ AsksFor before after name
 
 -- the status that tells of the refusal, and its note
@@ -71,3 +85,13 @@ TellsReport out out' note note' report status.Usage = ⊥
 TellsReport out out' note note' report status.ReadFault = ⊥
 TellsReport out out' note note' report status.BadImage = ⊥
 TellsReport out out' note note' report status.NoMemory = ⊥
+
+-- the status that tells how a listing went: what it says of the sink for the listing and of the one for notes
+abbrev pub TellsListing : SinkState → SinkState → SinkState → SinkState → List ℕ → Status → Type 0
+TellsListing out out' note note' text status.Done = IsWritten out out' text × (note' ≡ note)
+TellsListing out out' note note' text status.WriteFault = IsCutOff out out' text × Noted note note' notes.write_failed
+TellsListing out out' note note' text status.NoMemory = IsBegun out out' text × Noted note note' notes.no_memory
+TellsListing out out' note note' text status.Spent = ⊥
+TellsListing out out' note note' text status.Usage = ⊥
+TellsListing out out' note note' text status.ReadFault = ⊥
+TellsListing out out' note note' text status.BadImage = ⊥

@@ -1,15 +1,17 @@
 ghost use Rattle.std.specs.Prelude.{ℕ, List, map, string_bytes};
 ghost use Rattle.vx_machine.specs.Claim.{Claims};
 ghost use Rattle.vx_read.specs.Read.{AreRead};
+ghost use Rattle.vx_words.specs.Words.{AskFor};
+ghost use Rattle.vx_words.specs.Words.Command.{Dis};
 ghost use Rattle.vx_top.specs.Ranges.{AreInRange};
 
 use crate::notes;
 use crate::options::options_for;
-use crate::run::run_file;
-use crate::tell::{tell, tell_refusal, tell_report};
+use crate::run::{read_file, run_file};
+use crate::tell::{tell, tell_listing, tell_refusal, tell_report};
 use std::alloc::Global;
 use vx_base::{Shelf, Sink};
-use vx_read::{RunWords, read};
+use vx_read::{Asked, RunWords, read};
 use vx_words::Status;
 
 /// Runs the raw image that words ask for. What the answer says holds for whatever words ask for it.
@@ -30,8 +32,24 @@ fn run<F: Shelf, K: Sink, N: Sink>(
     }
 }
 
-/// All that the program does: reads the words, runs the image that they name, writes its report on `out`, and answers a
-/// status, with its note on `note`.
+/// Lists the instructions of the file of that name. What the answer says holds for whatever words ask for it.
+fn dis<F: Shelf, K: Sink, N: Sink>(
+    alloc: Global,
+    name: &str,
+    shelf: &mut F,
+    out: &mut K,
+    note: &mut N,
+) -> Status
+    ensures { (words : List (List ℕ)) → AskFor words (Dis name.now) → Claims words (record { shelf = F.state shelf.old; out = K.state out.old; note = N.state note.old }) (record { shelf = F.state shelf.new; out = K.state out.new; note = N.state note.new }) result }
+{
+    match read_file(alloc, name, shelf) {
+        Ok(bytes) => tell_listing(alloc, bytes.slice(), out, note),
+        Err(refusal) => tell_refusal(alloc, name, refusal, note),
+    }
+}
+
+/// All that the program does: reads the words, runs the image or lists the file that they name, writes the report or the
+/// listing on `out`, and answers a status, with its note on `note`.
 pub fn vexec<F: Shelf, K: Sink, N: Sink>(
     alloc: Global,
     words: &[String],
@@ -42,7 +60,8 @@ pub fn vexec<F: Shelf, K: Sink, N: Sink>(
     ensures { Claims (map string_bytes words.now) (record { shelf = F.state shelf.old; out = K.state out.old; note = N.state note.old }) (record { shelf = F.state shelf.new; out = K.state out.new; note = N.state note.new }) result }
 {
     match read(words) {
-        Ok(asked) => run(alloc, &asked, shelf, out, note),
+        Ok(Asked::Run(asked)) => run(alloc, &asked, shelf, out, note),
+        Ok(Asked::Dis(name)) => dis(alloc, name, shelf, out, note),
         Err(index) => tell(note, Status::Usage, notes::bad_words(alloc, index)),
     }
 }

@@ -2,7 +2,7 @@ ghost use Rattle.std.specs.Prelude.{◌≡◌, IfOk, IfErr};
 ghost use Rattle.vx_base.specs.Shelf.{Reads};
 ghost use Rattle.vx_system.specs.Runs.{settings_of};
 ghost use Rattle.vx_words.specs.Notes.{file_limit};
-ghost use Rattle.vx_top.specs.Files.{Ran, RefusesBytes, RanFile, Refuses};
+ghost use Rattle.vx_top.specs.Files.{Ran, RefusesBytes, RanFile, RefusesFile, Refuses};
 
 use crate::notes::FILE_LIMIT;
 use crate::refusal::{FileFault, Refusal};
@@ -32,9 +32,9 @@ fn run_image(alloc: Global, bytes: &[u8], options: &Options) -> Result<Report, R
 }
 
 /// The bytes of the file of that name.
-fn read_file<F: Shelf>(alloc: Global, name: &str, shelf: &mut F) -> Result<Bytes, Refusal>
+pub fn read_file<F: Shelf>(alloc: Global, name: &str, shelf: &mut F) -> Result<Bytes, Refusal>
     ensures read { IfOk result (Reads (F.state shelf.old) (F.state shelf.new) name.now file_limit) }
-    ensures refused { IfErr result (Refuses (F.state shelf.old) (F.state shelf.new) name.now) }
+    ensures refused { IfErr result (RefusesFile (F.state shelf.old) (F.state shelf.new) name.now) }
 {
     match shelf.fetch(alloc, name, FILE_LIMIT)? {
         Fetched::Got(bytes) => Ok(bytes),

@@ -1,5 +1,6 @@
 ghost use Rattle.std.specs.Prelude.{◌≡◌, string_bytes, MatchResult};
-ghost use Rattle.vx_top.specs.Files.{TellsRefusal, TellsReport};
+ghost use Rattle.vx_top.specs.Files.{TellsRefusal, TellsReport, TellsListing};
+ghost use Rattle.vx_source.specs.Listing.{listing};
 ghost use Rattle.vx_top.specs.Noted.{Noted, NotesWant};
 
 use crate::notes;
@@ -7,6 +8,7 @@ use crate::refusal::Refusal;
 use crate::run::Report;
 use std::alloc::{AllocError, Global};
 use vx_base::{Sink, write_text};
+use vx_dis::{ListingFault, write_listing};
 use vx_machine::Stop;
 use vx_words::Status;
 
@@ -69,5 +71,24 @@ pub fn tell_report<K: Sink, N: Sink>(report: &Report, out: &mut K, note: &mut N)
             write_note(note, notes::write_failed());
             Status::WriteFault
         }
+    }
+}
+
+/// Writes the listing of a file's bytes, and a note where it could not be written whole.
+pub fn tell_listing<K: Sink, N: Sink>(
+    alloc: Global,
+    bytes: &[u8],
+    out: &mut K,
+    note: &mut N,
+) -> Status
+    ensures { TellsListing (K.state out.old) (K.state out.new) (N.state note.old) (N.state note.new) (listing bytes.now) result }
+{
+    match write_listing(alloc, bytes, out) {
+        Ok(()) => Status::Done,
+        Err(ListingFault::Write) => {
+            write_note(note, notes::write_failed());
+            Status::WriteFault
+        }
+        Err(ListingFault::NoMemory) => tell_want(note),
     }
 }

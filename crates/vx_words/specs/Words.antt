@@ -90,6 +90,10 @@ AskFor words (Dis name) = (words ≡ codes "dis" ∷ name ∷ []) × IsFile name
 abbrev pub AskForFile : List (List ℕ) → List ℕ → Type 0
 AskForFile words name = (command : Command) × AskFor words command × (file_of command ≡ name)
 
+-- the words ask to run the image of this name
+abbrev pub AskToRun : List (List ℕ) → List ℕ → Type 0
+AskToRun words name = (givens : List Given) × AskFor words (Run givens name)
+
 -- the words ask for no command
 abbrev pub AreOutside : List (List ℕ) → Type 0
 AreOutside words = (command : Command) → AskFor words command → ⊥

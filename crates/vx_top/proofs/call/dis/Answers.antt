@@ -1,0 +1,16 @@
+use Rattle.std.proofs.Common.{refl}
+use Rattle.vx_machine.specs.Claim.{Devices}
+use Rattle.vx_top.proofs.Claimed.{Claims-listing, Claims-unlisted}
+use Rattle.vx_top.proofs.call.dis.Goals as goal
+
+pub returns-in-Ok : goal.returns-in-Ok
+returns-in-Ok g c words asks =
+    let before : Devices = record { shelf = g.F.Shelf.state c.args.shelf.now; out = g.K.Sink.state c.args.out.now; note = g.N.Sink.state c.args.note.now } in
+    let after : Devices = record { shelf = g.F.Shelf.state c.read_file.new.shelf; out = g.K.Sink.state c.tell_listing.new.out; note = g.N.Sink.state c.tell_listing.new.note } in
+    Claims-listing words c.args.name.now asks before after c.in-Ok.bytes c.tell_listing.result c.in-Ok.ensures.read c.tell_listing.ensures
+
+pub returns-in-Err : goal.returns-in-Err
+returns-in-Err g c words asks =
+    let before : Devices = record { shelf = g.F.Shelf.state c.args.shelf.now; out = g.K.Sink.state c.args.out.now; note = g.N.Sink.state c.args.note.now } in
+    let after : Devices = record { shelf = g.F.Shelf.state c.read_file.new.shelf; out = g.K.Sink.state c.args.out.now; note = g.N.Sink.state c.tell_refusal.new.note } in
+    Claims-unlisted words c.args.name.now asks before after c.in-Err.refusal c.tell_refusal.result refl c.in-Err.ensures.refused c.tell_refusal.ensures
