@@ -1,4 +1,4 @@
-use Rattle.std.proofs.Common.{◌≡◌, ◌≢◌, ◌∷◌, List, ap, ◌∙◌, map, string_bytes, rules}
+use Rattle.std.proofs.Common.{◌≡◌, ◌≢◌, ◌∷◌, ap, ◌∙◌, map, string_bytes, rules}
 use Rattle.std.specs.Prelude.{codes}
 use Rattle.vx_read.proofs.Whole.{outside_all, first_bad_all, first_bad_none, first_bad_command}
 use Rattle.vx_read.proofs.reader.read.Goals as goal
