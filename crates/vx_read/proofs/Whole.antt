@@ -1,14 +1,14 @@
 -- From the words behind `run` to all of them.
-use Rattle.std.proofs.Common.{◌≡◌, ◌≢◌, ℕ, Bool, true, false, ◌+◌, ◌<◌, ◌≤◌, ◌⊎◌, List, [], ◌∷◌, ◌++◌, length, take, drop, Option, Some, None, IfSome, decimal, refl, sym, ap, subst, ◌∙◌, inl, inr, ⊎_elim, lit<, append_assoc, add-one, arith}
+use Rattle.std.proofs.Common.{◌≡◌, ◌≢◌, ℕ, true, false, ◌+◌, ◌<◌, ◌≤◌, List, [], ◌∷◌, ◌++◌, take, drop, Option, Some, None, IfSome, refl, sym, ap, subst, ◌∙◌, ⊎_elim, append_assoc, add-one, arith}
 use Rattle.std.specs.Prelude.{codes}
 use Rattle.std.proofs.lemmas.List.{take-take, take-append-drop}
 use Rattle.std.proofs.lemmas.Bool.{cases_lt}
-use Rattle.vx_words.specs.Words.{OptionName, Given, Command, row_of, is_same, given_number, IsInRange, IsRawImage, AskFor, AreOutside, AreBegun, IsFirstBad}
+use Rattle.vx_words.specs.Words.{OptionName, Given, Command, is_same, given_number, IsInRange, AskFor, AreOutside, AreBegun, IsFirstBad}
 use Rattle.vx_words.specs.Words.OptionName.{Window, Lanes, Budget}
 use Rattle.vx_words.specs.Words.Command.{Run}
 use Rattle.vx_read.specs.declared.numbers.Numbers.{Numbers}
 use Rattle.vx_read.specs.declared.run_words.RunWords.{RunWords}
-use Rattle.vx_read.specs.Numbers.{number_in, nothing, IsRunOf}
+use Rattle.vx_read.specs.Numbers.{nothing, IsRunOf}
 use Rattle.vx_read.specs.Behind.{AreOptionsAndImage, AreNew, AreBegunBehind, AreBadBehind, AreReadBehind}
 use Rattle.vx_read.specs.Files.{AreBad}
 use Rattle.vx_read.specs.Read.{AreRead}
