@@ -1,5 +1,5 @@
 -- What a number's decimal digits begin with, and what `parse` reads.
-use Rattle.std.proofs.Common.{◌≡◌, ◌≢◌, ℕ, ◌^◌, ◌<◌, ◌≤◌, List, length, get_or, Result, Ok, Err, MatchResult, decimal, sym, ap, subst, ◌∙◌, ◌⊎◌, inl, inr, ⊎_elim, arith}
+use Rattle.std.proofs.Common.{◌≡◌, ◌≢◌, ℕ, ◌^◌, ◌<◌, ◌≤◌, List, length, get_or, Result, Ok, Err, MatchResult, decimal, sym, ⊎_elim, arith}
 use Rattle.std.specs.Str.Parse.{AllDigits, digits_value, ParsesUnsigned}
 use Rattle.std.proofs.lemmas.Str.Parse.{IsNumeralModel, numerals_by_value, tells_digits, digit_at, parse_plain}
 use Rattle.std.proofs.lemmas.Fmt.{decimal_is_IsNumeral, decimal_digit, first_decimal, decimal-digits_value, parse-decimal}
@@ -16,8 +16,11 @@ first_is_digit n small =
     (omega (arith, digit), numeral.0.0)
 
 -- a text that is a number's digits isn't empty, and doesn't begin with a plus
-pub begins_with_digit : (text : List ℕ) (n : ℕ) → n < 2 ^ 64 → text ≡ decimal n → (48 ≤ get_or text 0 0) × (0 < length text)
-begins_with_digit text n small is = rw is (first_is_digit n small)
+pub not_empty : (text : List ℕ) (n : ℕ) → n < 2 ^ 64 → text ≡ decimal n → 0 < length text
+not_empty text n small is = rw is (first_is_digit n small).1
+
+pub begins_with_digit : (text : List ℕ) (n : ℕ) → n < 2 ^ 64 → text ≡ decimal n → 48 ≤ get_or text 0 0
+begins_with_digit text n small is = rw is (first_is_digit n small).0
 
 -- where it begins with a zero, it is the zero alone
 zero_alone : (n : ℕ) → n < 2 ^ 64 → get_or (decimal n) 0 0 ≡ 48 → length (decimal n) ≡ 1

@@ -1,8 +1,8 @@
 -- What options and an image begin with, by their first word.
-use Rattle.std.proofs.Common.{◌≡◌, ℕ, ◌+◌, ◌^◌, ◌<◌, ◌≤◌, ◌⊎◌, List, [], ◌∷◌, ◌++◌, length, Option, Some, None, decimal, refl, sym, ap, subst, ◌∙◌, inl, inr, ⊎_elim, append_assoc, arith}
+use Rattle.std.proofs.Common.{◌≡◌, ℕ, ◌^◌, ◌<◌, ◌≤◌, ◌⊎◌, List, [], ◌∷◌, ◌++◌, None, decimal, refl, sym, ap, subst, ◌∙◌, inl, inr, ⊎_elim, append_assoc, arith}
 use Rattle.std.specs.Prelude.{codes}
 use Rattle.std.proofs.lemmas.Fmt.{decimal_injective}
-use Rattle.vx_words.specs.Words.{OptionName, Given, row_of, given_number, IsInRange, Spell, SpellAll, IsRawImage, AskFor}
+use Rattle.vx_words.specs.Words.{OptionName, Given, row_of, given_number, IsInRange, SpellAll, IsRawImage, AskFor}
 use Rattle.vx_words.specs.Words.OptionName.{Window, Lanes, Budget}
 use Rattle.vx_words.specs.Words.Command.{Run}
 use Rattle.vx_read.specs.Forms.{IsBoth, HasNoForm}

@@ -1,11 +1,10 @@
 -- How far the words behind `run` are read.
-use Rattle.std.proofs.Common.{◌≡◌, ℕ, ◌+◌, ◌<◌, ◌≤◌, List, [], ◌∷◌, ◌++◌, length, Option, Some, None, decimal, refl, sym, ap, subst, ◌∙◌, ⊎_elim, length-append, add_assoc, arith}
+use Rattle.std.proofs.Common.{◌≡◌, ℕ, ◌+◌, ◌<◌, List, [], ◌∷◌, ◌++◌, length, Option, Some, None, decimal, refl, ap, subst, ◌∙◌, ⊎_elim, length-append, arith}
 use Rattle.std.specs.Prelude.{codes}
-use Rattle.vx_words.specs.Words.{OptionName, Given, row_of, given_number, IsInRange, Spell}
-use Rattle.vx_words.specs.Words.OptionName.{Window, Lanes, Budget}
+use Rattle.vx_words.specs.Words.{Given, row_of, Spell}
 use Rattle.vx_read.specs.declared.numbers.Numbers.{Numbers}
 use Rattle.vx_read.specs.Numbers.{number_in, nothing}
-use Rattle.vx_read.specs.Behind.{SpellBefore, AreOptionsAndImage, AreNew, AreWith, AreBadBehind, AreReadBehind, either}
+use Rattle.vx_read.specs.Behind.{AreWith, AreBadBehind, AreReadBehind, either}
 use Rattle.vx_read.specs.Fronts.{IsGivenFront, AreImage}
 use Rattle.vx_read.proofs.Onward.{IsNewGiven, read_from, bad_from}
 

@@ -4,4 +4,6 @@ pub mod Heads
 pub mod Onward
 pub mod First
 pub mod Leads
+pub mod OneFile
 pub mod Whole
+pub mod Commands

@@ -1,16 +1,12 @@
 -- From the words behind an option to the words from it on.
-use Rattle.std.proofs.Common.{◌≡◌, ◌≢◌, ℕ, ◌+◌, ◌<◌, ◌≤◌, Bool, true, false, cond, ◌⊎◌, List, [], ◌∷◌, ◌++◌, length, take, Option, Some, None, decimal, refl, sym, ap, subst, ◌∙◌, inl, inr, ⊎_elim, append_assoc, length-append, add_assoc, arith}
-use Rattle.std.specs.Prelude.{codes}
+use Rattle.std.proofs.Common.{◌≡◌, ℕ, ◌+◌, Bool, true, false, cond, ◌⊎◌, List, ◌∷◌, ◌++◌, length, take, Option, Some, None, refl, sym, ap, subst, ◌∙◌, inl, inr, ⊎_elim, append_assoc, length-append, add_assoc, arith}
 use Rattle.std.proofs.Math.Seq.{take-append-add}
-use Rattle.std.proofs.lemmas.Bool.{false≢true}
-use Rattle.vx_words.specs.Words.{OptionName, Given, row_of, is_same, given_number, IsInRange, Spell, IsRawImage, AskFor}
-use Rattle.vx_words.specs.Words.OptionName.{Window, Lanes, Budget}
+use Rattle.vx_words.specs.Words.{OptionName, Given, is_same, given_number, IsInRange}
 use Rattle.vx_read.specs.declared.numbers.Numbers.{Numbers}
 use Rattle.vx_read.specs.Numbers.{number_in}
-use Rattle.vx_read.specs.Forms.{IsBoth, HasNoForm}
-use Rattle.vx_read.specs.Behind.{SpellBefore, AreOptionsAndImage, AreNew, AreWith, AreBegunBehind, AreBadBehind, AreReadBehind, either}
+use Rattle.vx_read.specs.Behind.{SpellBefore, AreNew, AreWith, AreBegunBehind, AreBadBehind, AreReadBehind, either}
 use Rattle.vx_read.proofs.Spellings.{same_option, is_same_itself}
-use Rattle.vx_read.proofs.Heads.{IsEnd, IsNamed, IsBothGiven, IsGivenFirst, image_head, name_head, both_head, no_head, spelled_head, small}
+use Rattle.vx_read.proofs.Heads.{spelled_head}
 
 pub true_or_false : (b : Bool) → (b ≡ true) ⊎ (b ≡ false)
 true_or_false true = inl refl

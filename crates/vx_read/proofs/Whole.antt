@@ -1,15 +1,16 @@
 -- From the words behind `run` to all of them.
-use Rattle.std.proofs.Common.{◌≡◌, ◌≢◌, ℕ, Bool, true, false, ◌+◌, ◌<◌, ◌≤◌, ◌⊎◌, List, [], ◌∷◌, ◌++◌, length, take, drop, Option, Some, None, IfSome, decimal, refl, sym, ap, subst, ◌∙◌, inl, inr, ⊎_elim, lit<, append_assoc, add-one, arith}
+use Rattle.std.proofs.Common.{◌≡◌, ◌≢◌, ℕ, true, false, ◌+◌, ◌<◌, ◌≤◌, List, [], ◌∷◌, ◌++◌, take, drop, Option, Some, None, IfSome, refl, sym, ap, subst, ◌∙◌, ⊎_elim, append_assoc, add-one, arith}
 use Rattle.std.specs.Prelude.{codes}
 use Rattle.std.proofs.lemmas.List.{take-take, take-append-drop}
 use Rattle.std.proofs.lemmas.Bool.{cases_lt}
-use Rattle.vx_words.specs.Words.{OptionName, Given, Command, row_of, is_same, given_number, IsInRange, IsRawImage, AskFor, AreOutside, AreBegun, IsFirstBad}
+use Rattle.vx_words.specs.Words.{OptionName, Given, Command, is_same, given_number, IsInRange, AskFor, AreOutside, AreBegun, IsFirstBad}
 use Rattle.vx_words.specs.Words.OptionName.{Window, Lanes, Budget}
 use Rattle.vx_words.specs.Words.Command.{Run}
 use Rattle.vx_read.specs.declared.numbers.Numbers.{Numbers}
 use Rattle.vx_read.specs.declared.run_words.RunWords.{RunWords}
-use Rattle.vx_read.specs.Numbers.{number_in, nothing, IsRunOf}
+use Rattle.vx_read.specs.Numbers.{nothing, IsRunOf}
 use Rattle.vx_read.specs.Behind.{AreOptionsAndImage, AreNew, AreBegunBehind, AreBadBehind, AreReadBehind}
+use Rattle.vx_read.specs.Files.{AreBad}
 use Rattle.vx_read.specs.Read.{AreRead}
 use Rattle.vx_read.proofs.Spellings.{same_option}
 use Rattle.vx_read.proofs.Heads.{asks, asked, image_head, spelled_head}
@@ -59,59 +60,20 @@ nothing_new givens Window number has = absurd (cc)
 nothing_new givens Lanes number has = absurd (cc)
 nothing_new givens Budget number has = absurd (cc)
 
-begun_run : (words : List (List ℕ)) → AreBegunBehind nothing words → AreBegun (codes "run" ∷ words)
-begun_run words begun = (begun.rest, Run begun.givens begun.name, asks (words ++ begun.rest) begun.givens begun.name begun.asked)
+-- the words behind `run`
+abbrev pub AreRun : List (List ℕ) → Type 0
+AreRun words = (givens : List Given) × (name : List ℕ) × AreOptionsAndImage words givens name
 
-begun_behind : (words rest : List (List ℕ)) (command : Command) → AskFor (codes "run" ∷ (words ++ rest)) command → AreBegunBehind nothing words
-begun_behind words rest (Run givens name) asks = record { rest = rest; givens = givens; name = name; asked = asked (words ++ rest) givens name asks; new = nothing_new givens }
-
-outside_whole : (words : List (List ℕ)) (index : ℕ) → AreBadBehind nothing words index → AreOutside (codes "run" ∷ words)
-outside_whole words index bad (Run givens name) asks = bad.outside givens name (asked words givens name asks) (nothing_new givens)
-
-first_bad_whole : (words : List (List ℕ)) (index : ℕ) → AreBadBehind nothing words index → IsFirstBad (codes "run" ∷ words) (index + 1)
-first_bad_whole words index bad =
-    let within = bad.within in
-    record {
-      begun = rw add-one (begun_run (take index words) bad.begun);
-      within = omega arith;
-      bad = λ inside begun.
-          let e : take (index + 1 + 1) (codes "run" ∷ words) ≡ codes "run" ∷ take (index + 1) words = rw (add-one (index + 1)) refl in
-          let Begun : List (List ℕ) → Type 0 = λ w. AreBegun w in
-          let shorter = subst Begun e begun in
-          bad.bad (omega arith) (begun_behind (take (index + 1) words) shorter.0 shorter.1 shorter.2);
-    }
-
-pub outside_all : (words rest : List (List ℕ)) (index : ℕ) → words ≡ codes "run" ∷ rest → AreBadBehind nothing rest index → AreOutside words
-outside_all words rest index is bad = let Outside : List (List ℕ) → Type 0 = λ w. AreOutside w in subst Outside (sym is) (outside_whole rest index bad)
-
-pub first_bad_all : (words rest : List (List ℕ)) (index : ℕ) → words ≡ codes "run" ∷ rest → AreBadBehind nothing rest index → IsFirstBad words (index + 1)
-first_bad_all words rest index is bad = let First : List (List ℕ) → Type 0 = λ w. IsFirstBad w (index + 1) in subst First (sym is) (first_bad_whole rest index bad)
-
--- no words at all, and words that don't begin with `run`
-begun_none : AreBegun []
-begun_none = let begun = begun_run [] (begun_nowhere nothing) in (codes "run" ∷ begun.0, begun.1, begun.2)
-
-pub outside_none : AreOutside []
-outside_none (Run givens name) asks = let e = asks.2 in cc
-
-pub first_bad_none : IsFirstBad [] 0
-first_bad_none = record { begun = begun_none; within = omega arith; bad = λ inside begun. absurd (omega arith) }
-
-not_run : (word : List ℕ) (rest : List (List ℕ)) (command : Command) → word ≢ codes "run" → AskFor (word ∷ rest) command → ⊥
-not_run word rest (Run givens name) other asks = let e = asks.2 in other (cc)
-
-pub outside_command : (word : List ℕ) (rest : List (List ℕ)) → word ≢ codes "run" → AreOutside (word ∷ rest)
-outside_command word rest other command asks = not_run word rest command other asks
-
-pub first_bad_command : (word : List ℕ) (rest : List (List ℕ)) → word ≢ codes "run" → IsFirstBad (word ∷ rest) 0
-first_bad_command word rest other = record {
-  begun = begun_none;
-  within = omega arith;
-  bad = λ inside begun. not_run word begun.0 begun.1 other begun.2;
+pub run_bad : (words : List (List ℕ)) (index : ℕ) → AreBadBehind nothing words index → AreBad AreRun words index
+run_bad words index bad = record {
+  outside = λ fit. bad.outside fit.0 fit.1 fit.2 (nothing_new fit.0);
+  begun = (bad.begun.rest, (bad.begun.givens, bad.begun.name, bad.begun.asked));
+  within = bad.within;
+  bad = λ inside rest fit. bad.bad inside (record { rest = rest; givens = fit.0; name = fit.1; asked = fit.2; new = nothing_new fit.0 });
 }
 
 -- the words are read in one way
-one_reading : (words : List (List ℕ)) (one other : List Given) (name more : List ℕ) → AreOptionsAndImage words one name → AreOptionsAndImage words other more → (one ≡ other) × (name ≡ more)
+pub one_reading : (words : List (List ℕ)) (one other : List Given) (name more : List ℕ) → AreOptionsAndImage words one name → AreOptionsAndImage words other more → (one ≡ other) × (name ≡ more)
 one_reading words [] other name more t asked_more =
     let Asked : List (List ℕ) → Type 0 = λ w. AreOptionsAndImage w other more in
     let end = image_head t.0 [] other name more t.2 (subst Asked t.1 asked_more) in
@@ -120,16 +82,6 @@ one_reading words (given ∷ later) other name more t asked_more =
     let h = spelled_head words given t.0 other more t.1 t.2 asked_more in
     let rest = one_reading t.0 later h.later name more t.4 h.asked in
     (ap (λ l. given ∷ l) rest.0 ∙ sym h.givens_are, rest.1)
-
-pub one_command : (words : List (List ℕ)) (one other : Command) → AskFor words one → AskFor words other → one ≡ other
-one_command words (Run givens name) (Run others more) asks_one asks_other =
-    let rest : List (List ℕ) = asks_one.0 ++ asks_one.1 ∷ [] in
-    let e : words ≡ codes "run" ∷ rest = asks_one.2 in
-    let One : List (List ℕ) → Type 0 = λ w. AskFor w (Run givens name) in
-    let Other : List (List ℕ) → Type 0 = λ w. AskFor w (Run others more) in
-    let same = one_reading rest givens others name more (asked rest givens name (subst One e asks_one)) (asked rest others more (subst Other e asks_other)) in
-    let givens_are = same.0 in
-    let names_are = same.1 in cc
 
 -- what begins a command does so up to any word
 begun_before : (words : List (List ℕ)) (n : ℕ) → AreBegun words → AreBegun (take n words)

@@ -1,5 +1,5 @@
 -- What stands first in words behind those that are read. This project's own.
-use Rattle.std.specs.Prelude.{◌≡◌, ℕ, List, [], ◌∷◌, map, Option, None, string_bytes}
+use Rattle.std.specs.Prelude.{◌≡◌, ℕ, List, [], ◌∷◌, map, None, string_bytes}
 use Rattle.vx_words.specs.Words.{Given, IsInRange, IsRawImage}
 use Rattle.vx_read.specs.declared.numbers.Numbers.{Numbers}
 use Rattle.vx_read.specs.declared.fronts.Front.{Front}

@@ -3,4 +3,5 @@ pub mod Numbers
 pub mod Forms
 pub mod Behind
 pub mod Fronts
+pub mod Files
 pub mod Read

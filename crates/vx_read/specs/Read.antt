@@ -2,7 +2,9 @@
 use Rattle.std.specs.Prelude.{◌≡◌, ℕ, List, IfSome}
 use Rattle.vx_words.specs.Words.{Given, given_number, IsInRange, AskFor}
 use Rattle.vx_words.specs.Words.OptionName.{Window, Lanes, Budget}
-use Rattle.vx_words.specs.Words.Command.{Run}
+use Rattle.vx_words.specs.Words.Command.{Run, Dis}
+use Rattle.vx_read.specs.declared.asked.Asked.{Asked}
+use Rattle.vx_read.specs.declared.asked.Asked.TheVariants as asked
 use Rattle.vx_read.specs.declared.run_words.RunWords.{RunWords}
 
 -- the words ask to run the raw image of this name under these options; each number is the one that its option is given,
@@ -16,3 +18,8 @@ pub record AreRead (words : List (List ℕ)) (run : RunWords) : Type 0 where
   pub window_in_range : IfSome run.window (λ number. IsInRange (record { option = Window; number = number }))
   pub lanes_in_range : IfSome run.lanes (λ number. IsInRange (record { option = Lanes; number = number }))
   pub budget_in_range : IfSome run.budget (λ number. IsInRange (record { option = Budget; number = number }))
+
+-- the words ask for this
+abbrev pub IsRead : List (List ℕ) → Asked → Type 0
+IsRead words (asked.Run run) = AreRead words run
+IsRead words (asked.Dis name) = AskFor words (Dis name.now)

@@ -1,4 +1,4 @@
-ghost use Rattle.std.specs.Prelude.{◌≡◌, ◌≢◌, ℕ, ◌<◌, ◌^◌, length, slice_index, IsTrue, MatchOption, decimal};
+ghost use Rattle.std.specs.Prelude.{◌≡◌, ◌≢◌, ℕ, ◌<◌, ◌^◌, length, slice_index, MatchOption, decimal};
 ghost use Rattle.std.specs.Bool.{OnTrue, OnFalse};
 ghost use Rattle.vx_words.specs.Words.{IsInRange};
 ghost use Rattle.vx_read.specs.Settings.{given_to};
@@ -6,6 +6,7 @@ ghost use Rattle.vx_read.specs.Settings.{given_to};
 use crate::settings::Setting;
 
 /// Whether the text may be a number's decimal digits, by its first byte: there is one, no `+`, and no zero before more.
+#[tactic(auto, using(crate::proofs::Decimals::not_empty, crate::proofs::Decimals::begins_with_digit, crate::proofs::Decimals::begins_with_zero))]
 fn begins_as_number(text: &[u8]) -> bool
     ensures sign { OnTrue result (slice_index text.now 0 ≢ 43) }
     ensures zero { OnTrue result (slice_index text.now 0 ≡ 48 → length text.now ≡ 1) }

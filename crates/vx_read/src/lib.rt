@@ -5,7 +5,9 @@
 //! doesn't fit.
 #![tactic(auto)]
 
+mod asked;
 mod digits;
+mod files;
 mod forms;
 mod fronts;
 mod laws;
@@ -16,6 +18,7 @@ mod settings;
 #[cfg(test)]
 mod tests;
 
+pub use asked::Asked;
 pub use laws::{first_bad_word_is_one, words_ask_for_one_command};
 pub use reader::read;
 pub use run_words::RunWords;

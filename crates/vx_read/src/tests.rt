@@ -1,4 +1,4 @@
-use crate::{RunWords, first_bad_word_is_one, read, words_ask_for_one_command};
+use crate::{Asked, RunWords, first_bad_word_is_one, read, words_ask_for_one_command};
 use std::alloc::{AllocError, Global};
 use std::process::Abort;
 use std::test::Fail;
@@ -21,16 +21,21 @@ fn refused(rt: &impl Abort, alloc: Global, table: &[(&str, usize)]) -> Result<()
     Ok(())
 }
 
-/// Sees that the line is accepted with these numbers and this name.
+/// Sees that the line asks for this.
+fn asks(rt: &impl Abort, alloc: Global, line: &str, want: Asked<'_>) -> Result<(), AllocError> {
+    let words = words_of(alloc, line)?;
+    assert_eq!(rt; read(words.as_slice()), Ok(want), "{line}");
+    Ok(())
+}
+
+/// Sees that the line asks for a run with these numbers and this name.
 fn accepted(
     rt: &impl Abort,
     alloc: Global,
     line: &str,
     want: RunWords<'_>,
 ) -> Result<(), AllocError> {
-    let words = words_of(alloc, line)?;
-    assert_eq!(rt; read(words.as_slice()), Ok(want), "{line}");
-    Ok(())
+    asks(rt, alloc, line, Asked::Run(want))
 }
 
 /// A run of this name under no option.
@@ -94,6 +99,35 @@ fn any_name_is_read_that_is_not_empty(rt: HostRuntime) -> Result<(), Fail> {
     ] {
         accepted(&rt, alloc, line, plain(name))?;
     }
+    Ok(())
+}
+
+#[test]
+fn any_file_is_read(rt: HostRuntime) -> Result<(), Fail> {
+    let alloc = rt.alloc();
+    for (line, name) in [("dis f", "f"), ("dis raw:f", "raw:f"), ("dis f-x", "f-x"), ("dis dis", "dis")] {
+        asks(&rt, alloc, line, Asked::Dis(name))?;
+    }
+    Ok(())
+}
+
+#[test]
+fn a_file_is_one_word(rt: HostRuntime) -> Result<(), Fail> {
+    let alloc = rt.alloc();
+    let table = [
+        ("diss f", 0),
+        ("Dis f", 0),
+        ("dis", 1),
+        ("dis -", 1),
+        ("dis -x", 1),
+        ("dis --budget=5 f", 1),
+        ("dis f more", 2),
+        ("dis f f f", 2),
+    ];
+    refused(&rt, alloc, table.as_slice())?;
+    let mut words = words_of(alloc, "dis")?;
+    words.push(String::new(alloc))?;
+    assert_eq!(rt; read(words.as_slice()), Err(1));
     Ok(())
 }
 

@@ -1,4 +1,4 @@
-use Rattle.std.proofs.Common.{sym, ◌∙◌, map, string_bytes}
+use Rattle.std.proofs.Common.{sym, map, string_bytes}
 use Rattle.vx_read.specs.Settings.{option_of, given_to}
 use Rattle.vx_read.proofs.First.{bad_second_both, bad_both_number, given_in_one}
 use Rattle.vx_read.proofs.fronts.both_front.Goals as goal

@@ -1,0 +1,145 @@
+-- A command by its first word, and by what stands behind that.
+use Rattle.std.proofs.Common.{◌≡◌, ◌≢◌, ℕ, ◌+◌, ◌<◌, ◌≤◌, Bool, true, false, List, [], ◌∷◌, ◌++◌, length, take, refl, sym, ap, subst, ◌∙◌, add-one, arith}
+use Rattle.std.specs.Prelude.{codes}
+use Rattle.std.specs.Str.{bytes_eq}
+use Rattle.std.proofs.lemmas.Bool.{false≢true}
+use Rattle.vx_words.specs.Words.{Given, Command, AskFor, AreOutside, AreBegun, IsFirstBad}
+use Rattle.vx_words.specs.Words.Command.{Run, Dis}
+use Rattle.vx_read.specs.Behind.{AreOptionsAndImage}
+use Rattle.vx_read.specs.Files.{IsOneFile, AreOneFile, AreBad}
+use Rattle.vx_read.proofs.Heads.{asks, asked}
+use Rattle.vx_read.proofs.OneFile.{some_file, one_name}
+use Rattle.vx_read.proofs.Whole.{AreRun, one_reading}
+
+-- the command's word
+abbrev pub word_of : Command → List ℕ
+word_of (Run givens name) = codes "run"
+word_of (Dis name) = codes "dis"
+
+begins : (words : List (List ℕ)) (command : Command) → AskFor words command → (rest : List (List ℕ)) × (words ≡ word_of command ∷ rest)
+begins words (Run givens name) asks = (asks.0 ++ asks.1 ∷ [], asks.2)
+begins words (Dis name) asks = (name ∷ [], asks.0)
+
+word_is : (word : List ℕ) (rest : List (List ℕ)) (command : Command) → AskFor (word ∷ rest) command → word ≡ word_of command
+word_is word rest command asks = let begun = begins (word ∷ rest) command asks in let e = begun.1 in cc
+
+-- the words ask for no command of another word
+other_word : (word : List ℕ) (rest : List (List ℕ)) (command : Command) → bytes_eq word (word_of command) ≡ false → bytes_eq word word ≡ true → AskFor (word ∷ rest) command → ⊥
+other_word word rest command other same asks =
+    false≢true (sym other ∙ sym (ap (bytes_eq word) (word_is word rest command asks)) ∙ same)
+
+-- behind this word, exactly the words that fit make a command, and they make one
+pub record IsWordOf (word : List ℕ) (Fit : List (List ℕ) → Type 0) : Type 0 where
+  pub some : (words : List (List ℕ)) → Fit words → (command : Command) × AskFor (word ∷ words) command
+  pub only : (words : List (List ℕ)) (command : Command) → AskFor (word ∷ words) command → Fit words
+  pub same : (words : List (List ℕ)) (one other : Command) → AskFor (word ∷ words) one → AskFor (word ∷ words) other → one ≡ other
+
+-- `run`
+abbrev RunOn : List (List ℕ) → Command → Type 0
+RunOn words (Run givens name) = AreOptionsAndImage words givens name
+RunOn words other = ⊥
+
+run_on : (words : List (List ℕ)) (command : Command) → AskFor (codes "run" ∷ words) command → RunOn words command
+run_on words (Run givens name) asks = asked words givens name asks
+run_on words other asks = other_word (codes "run") words other refl refl asks
+
+run_fits : (words : List (List ℕ)) (command : Command) → RunOn words command → AreRun words
+run_fits words (Run givens name) on = (givens, name, on)
+run_fits words other on = absurd on
+
+run_same : (words : List (List ℕ)) (one other : Command) → RunOn words one → RunOn words other → one ≡ other
+run_same words (Run givens name) (Run others more) on_one on_other =
+    let same = one_reading words givens others name more on_one on_other in
+    let givens_are = same.0 in
+    let names_are = same.1 in cc
+run_same words (Run givens name) other on_one on_other = absurd on_other
+run_same words one other on_one on_other = absurd on_one
+
+pub run_word : IsWordOf (codes "run") AreRun
+run_word = record {
+  some = λ words fit. (Run fit.0 fit.1, asks words fit.0 fit.1 fit.2);
+  only = λ words command asks. run_fits words command (run_on words command asks);
+  same = λ words one other asks_one asks_other. run_same words one other (run_on words one asks_one) (run_on words other asks_other);
+}
+
+-- `dis`
+abbrev DisOn : List (List ℕ) → Command → Type 0
+DisOn words (Dis name) = IsOneFile words name
+DisOn words other = ⊥
+
+dis_on : (words : List (List ℕ)) (command : Command) → AskFor (codes "dis" ∷ words) command → DisOn words command
+dis_on words (Dis name) asks = let e = asks.0 in (cc, asks.1)
+dis_on words other asks = absurd (other_word (codes "dis") words other refl refl asks)
+
+dis_fits : (words : List (List ℕ)) (command : Command) → DisOn words command → AreOneFile words
+dis_fits words (Dis name) on = (name, on)
+dis_fits words other on = absurd on
+
+dis_same : (words : List (List ℕ)) (one other : Command) → DisOn words one → DisOn words other → one ≡ other
+dis_same words (Dis name) (Dis more) on_one on_other = ap (λ n. Dis n) (one_name words name more on_one on_other)
+dis_same words (Dis name) other on_one on_other = absurd on_other
+dis_same words one other on_one on_other = absurd on_one
+
+pub dis_asks : (words : List (List ℕ)) (name : List ℕ) → IsOneFile words name → AskFor (codes "dis" ∷ words) (Dis name)
+dis_asks words name one = (ap (λ w. codes "dis" ∷ w) one.0, one.1)
+
+pub dis_word : IsWordOf (codes "dis") AreOneFile
+dis_word = record {
+  some = λ words fit. (Dis fit.0, dis_asks words fit.0 fit.1);
+  only = λ words command asks. dis_fits words command (dis_on words command asks);
+  same = λ words one other asks_one asks_other. dis_same words one other (dis_on words one asks_one) (dis_on words other asks_other);
+}
+
+-- words that don't fit behind a command's word
+pub outside_by : (word : List ℕ) (Fit : List (List ℕ) → Type 0) (words rest : List (List ℕ)) (index : ℕ) → IsWordOf word Fit → words ≡ word ∷ rest → AreBad Fit rest index → AreOutside words
+outside_by word Fit words rest index of is bad command asks =
+    let Asks : List (List ℕ) → Type 0 = λ w. AskFor w command in bad.outside (of.only rest command (subst Asks is asks))
+
+first_bad_behind : (word : List ℕ) (Fit : List (List ℕ) → Type 0) (rest : List (List ℕ)) (index : ℕ) → IsWordOf word Fit → AreBad Fit rest index → IsFirstBad (word ∷ rest) (index + 1)
+first_bad_behind word Fit rest index of bad =
+    let within = bad.within in
+    let some = of.some (take index rest ++ bad.begun.0) bad.begun.1 in
+    record {
+      begun = rw add-one (bad.begun.0, some.0, some.1);
+      within = omega arith;
+      bad = λ inside begun.
+          let e : take (index + 1 + 1) (word ∷ rest) ≡ word ∷ take (index + 1) rest = rw (add-one (index + 1)) refl in
+          let Begun : List (List ℕ) → Type 0 = λ w. AreBegun w in
+          let shorter = subst Begun e begun in
+          bad.bad (omega arith) shorter.0 (of.only (take (index + 1) rest ++ shorter.0) shorter.1 shorter.2);
+    }
+
+pub first_bad_by : (word : List ℕ) (Fit : List (List ℕ) → Type 0) (words rest : List (List ℕ)) (index : ℕ) → IsWordOf word Fit → words ≡ word ∷ rest → AreBad Fit rest index → IsFirstBad words (index + 1)
+first_bad_by word Fit words rest index of is bad =
+    let First : List (List ℕ) → Type 0 = λ w. IsFirstBad w (index + 1) in subst First (sym is) (first_bad_behind word Fit rest index of bad)
+
+-- no words at all, and words that don't begin with a command's
+begun_none : AreBegun []
+begun_none = let some = dis_word.some some_file.0 some_file.1 in (codes "dis" ∷ some_file.0, some.0, some.1)
+
+pub first_bad_none : IsFirstBad [] 0
+first_bad_none = record { begun = begun_none; within = omega arith; bad = λ inside begun. absurd (omega arith) }
+
+no_word : (word : List ℕ) (command : Command) → word ≢ codes "run" → word ≢ codes "dis" → word ≡ word_of command → ⊥
+no_word word (Run givens name) no_run no_dis is = no_run is
+no_word word (Dis name) no_run no_dis is = no_dis is
+
+pub outside_command : (word : List ℕ) (rest : List (List ℕ)) → word ≢ codes "run" → word ≢ codes "dis" → AreOutside (word ∷ rest)
+outside_command word rest no_run no_dis command asks = no_word word command no_run no_dis (word_is word rest command asks)
+
+pub first_bad_command : (word : List ℕ) (rest : List (List ℕ)) → word ≢ codes "run" → word ≢ codes "dis" → IsFirstBad (word ∷ rest) 0
+first_bad_command word rest no_run no_dis = record {
+  begun = begun_none;
+  within = omega arith;
+  bad = λ inside begun. outside_command word begun.0 no_run no_dis begun.1 begun.2;
+}
+
+-- the words ask for one command
+one_by : (word : List ℕ) (Fit : List (List ℕ) → Type 0) (words rest : List (List ℕ)) (one other : Command) → IsWordOf word Fit → words ≡ word ∷ rest → AskFor words one → AskFor words other → one ≡ other
+one_by word Fit words rest one other of is asks_one asks_other =
+    let One : List (List ℕ) → Type 0 = λ w. AskFor w one in
+    let Other : List (List ℕ) → Type 0 = λ w. AskFor w other in of.same rest one other (subst One is asks_one) (subst Other is asks_other)
+
+pub one_command : (words : List (List ℕ)) (one other : Command) → AskFor words one → AskFor words other → one ≡ other
+one_command words (Run givens name) other asks_one asks_other = one_by (codes "run") AreRun words (asks_one.0 ++ asks_one.1 ∷ []) (Run givens name) other run_word asks_one.2 asks_one asks_other
+one_command words (Dis name) other asks_one asks_other = one_by (codes "dis") AreOneFile words (name ∷ []) (Dis name) other dis_word asks_one.0 asks_one asks_other
