@@ -1,11 +1,11 @@
 -- What each way through the call claims.
-use Rattle.std.proofs.Common.{◌≡◌, ℕ, List, refl, sym, ap, subst, inl, inr, ◌≤◌, ◌⊎◌, arith}
+use Rattle.std.proofs.Common.{◌≡◌, ℕ, List, refl, sym, ap, subst, inl, inr, ◌≤◌, arith}
 use Rattle.std.specs.Prelude.{Result, Ok, Err, IfOk, MatchResult}
-use Rattle.vx_base.specs.Shelf.{ShelfState, AsksFor, Reads, IsUnasked}
+use Rattle.vx_base.specs.Shelf.{ShelfState, AsksFor, Reads}
 use Rattle.vx_base.specs.Sink.{SinkState}
 use Rattle.vx_base.specs.declared.options.Options.{Options}
 use Rattle.vx_flat.specs.Image.{raw_image}
-use Rattle.vx_machine.specs.Claim.{Devices, Headline, Claims, HasRun, HasListed, status_of}
+use Rattle.vx_machine.specs.Claim.{Devices, Headline, Claims, HasRun, status_of}
 use Rattle.vx_machine.specs.Machine.{Settings}
 use Rattle.vx_read.specs.Read.{AreRead}
 use Rattle.vx_read.specs.declared.run_words.RunWords.{RunWords}

@@ -2,7 +2,7 @@
 use Rattle.std.proofs.Common.{◌≡◌, ℕ, List}
 use Rattle.std.specs.Prelude.{unwrap_or}
 use Rattle.vx_base.specs.declared.options.Options.{Options}
-use Rattle.vx_machine.specs.Machine.{Settings, settings_for}
+use Rattle.vx_machine.specs.Machine.{settings_for}
 use Rattle.vx_read.specs.Read.{AreRead}
 use Rattle.vx_read.specs.declared.run_words.RunWords.{RunWords}
 use Rattle.vx_system.specs.Runs.{settings_of}

@@ -1,7 +1,7 @@
 -- The ranges of a run's numbers. This project's own.
 use Rattle.std.specs.Prelude.{IfSome}
 use Rattle.vx_read.specs.declared.run_words.RunWords.{RunWords}
-use Rattle.vx_words.specs.Words.{Given, IsInRange}
+use Rattle.vx_words.specs.Words.{IsInRange}
 use Rattle.vx_words.specs.Words.OptionName.{Window, Lanes, Budget}
 
 -- each number that is given lies in its option's range

@@ -148,6 +148,30 @@ fn words_outside_the_grammar_are_refused(rt: HostRuntime) -> Result<(), Fail> {
 }
 
 #[test]
+fn a_file_is_listed(rt: HostRuntime) -> Result<(), Fail> {
+    let alloc = rt.alloc();
+    let code = [0x13, 0x05, 0, 0, 0x23, 0, 0xa1, 0, 0, 0, 0, 0, 0x13];
+    let lines = "addi a0, zero, 0\nsb a0, 0(sp)\n.word 0x00000000\n";
+    let mut shelf = shelf_of(alloc, "code", Vec::from_slice(alloc, code.as_slice())?)?;
+    let done = call(alloc, "dis code", &mut shelf)?;
+    assert_eq!(rt; done.status, Status::Done);
+    assert_eq!(rt; done.out.bytes(), lines.as_bytes());
+    assert_eq!(rt; done.note.bytes().len(), 0);
+    let out = sink(alloc, 6, vec![in alloc; 3]?)?;
+    let note = sink(alloc, 4096, Vec::new(alloc))?;
+    let cut = call_on(alloc, "dis code", &mut shelf, out, note)?;
+    assert_eq!(rt; cut.status, Status::WriteFault);
+    assert_eq!(rt; cut.out.bytes(), b"addi a0, zer".as_slice());
+    let refused = call(alloc, "dis gone", &mut shelf)?;
+    assert_eq!(rt; refused.status, Status::ReadFault);
+    assert_eq!(rt;
+        refused.note.bytes(),
+        b"vexec: gone: read failed\n".as_slice()
+    );
+    Ok(())
+}
+
+#[test]
 fn files_are_refused(rt: HostRuntime) -> Result<(), Fail> {
     let alloc = rt.alloc();
     let table = [

@@ -1,5 +1,7 @@
 use Rattle.std.proofs.Common.{refl}
+use Rattle.vx_base.specs.Shelf.{Reads}
 use Rattle.vx_machine.specs.Claim.{Devices}
+use Rattle.vx_words.specs.Notes.{file_limit}
 use Rattle.vx_top.proofs.Claimed.{Claims-listing, Claims-unlisted}
 use Rattle.vx_top.proofs.call.dis.Goals as goal
 
@@ -7,7 +9,8 @@ pub returns-in-Ok : goal.returns-in-Ok
 returns-in-Ok g c words asks =
     let before : Devices = record { shelf = g.F.Shelf.state c.args.shelf.now; out = g.K.Sink.state c.args.out.now; note = g.N.Sink.state c.args.note.now } in
     let after : Devices = record { shelf = g.F.Shelf.state c.read_file.new.shelf; out = g.K.Sink.state c.tell_listing.new.out; note = g.N.Sink.state c.tell_listing.new.note } in
-    Claims-listing words c.args.name.now asks before after c.in-Ok.bytes c.tell_listing.result c.in-Ok.ensures.read c.tell_listing.ensures
+    let read : Reads before.shelf after.shelf c.args.name.now file_limit c.slice.result.now = rw c.slice.ensures c.in-Ok.ensures.read in
+    Claims-listing words c.args.name.now asks before after c.slice.result.now c.tell_listing.result read c.tell_listing.ensures
 
 pub returns-in-Err : goal.returns-in-Err
 returns-in-Err g c words asks =

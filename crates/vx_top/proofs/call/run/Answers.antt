@@ -1,4 +1,4 @@
-use Rattle.std.proofs.Common.{◌≡◌, refl}
+use Rattle.std.proofs.Common.{refl}
 use Rattle.vx_machine.specs.Claim.{Devices}
 use Rattle.vx_top.proofs.Claimed.{Claims-report, Claims-refusal}
 use Rattle.vx_top.proofs.Settled.{AreFor}

@@ -1,12 +1,12 @@
-use Rattle.std.proofs.Common.{string_bytes}
+use Rattle.std.proofs.Common.{map, string_bytes, subst}
+use Rattle.vx_read.specs.Read.{IsRead}
+use Rattle.vx_read.specs.declared.asked.Asked.{Asked}
 use Rattle.vx_top.proofs.Claimed.{Answers-from, Claims-usage}
 use Rattle.vx_top.proofs.call.vexec.Goals as goal
 
-pub returns-in-Ok-in-Run : goal.returns-in-Ok-in-Run
-returns-in-Ok-in-Run g c = c.run.ensures _ c.in-Ok.ensures.asks
-
-pub returns-in-Ok-in-Dis : goal.returns-in-Ok-in-Dis
-returns-in-Ok-in-Dis g c = c.dis.ensures _ c.in-Ok.ensures.asks
+pub returns-in-Ok-Dis : goal.returns-in-Ok-Dis
+returns-in-Ok-Dis g c =
+    c.dis.ensures (map string_bytes c.args.words.now) (subst (λ (asked : Asked). IsRead (map string_bytes c.args.words.now) asked) c.in-Ok-Dis.field-0-is c.in-Ok-Dis.ensures.asks)
 
 pub returns-in-Err : goal.returns-in-Err
 returns-in-Err g c =
