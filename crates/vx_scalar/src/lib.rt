@@ -1,0 +1,20 @@
+//! What the rows of RV64IM that touch no memory do, as a program, and the addresses of those that do.
+//!
+//! It stands on the arithmetic of `vx_bits`, on the instructions of `vx_decode` and on the definitions of `vx_flat`. To the
+//! crates above it gives the registers, `scalar`, which is the effect of an instruction, and `scalar_address`. It takes no
+//! memory.
+#![tactic(auto)]
+
+mod arithmetic;
+mod divide;
+mod effects;
+mod jump;
+mod multiply;
+mod reading;
+mod regs;
+#[cfg(test)]
+mod tests;
+
+pub use effects::{scalar, scalar_address};
+pub use regs::Regs;
+pub use vx_flat::Effect;
