@@ -95,7 +95,7 @@ module _ (entries : List PageEntry) (rising : IsRising entries) (page k : ℕ) (
   put_on_page (value ∷ []) bytes offset address same within fits long =
       let i = 4096 * k + offset in
       let whole : set bytes i value ≡ take (i + 1) (set bytes i value) ++ drop (i + 1 + 0) (set bytes i value) =
-          sym (take-append-drop (i + 1) (set bytes i value)) ∙ ap (λ (n : ℕ). take (i + 1) (set bytes i value) ++ drop n (set bytes i value)) (sym (add-zero (i + 1))) in
+      sym (take-append-drop (i + 1) (set bytes i value)) ∙ ap (λ (n : ℕ). take (i + 1) (set bytes i value) ++ drop n (set bytes i value)) (sym (add-zero (i + 1))) in
       put_one bytes value offset address same (omega arith)
       ∙ ap (pages_of entries) (whole ∙ put_next bytes [] value i (omega arith))
   put_on_page (value ∷ next ∷ values) bytes offset address same within fits long =

@@ -134,7 +134,12 @@ impl Memory {
             return false;
         };
         self.data = place;
-        put_number(&mut self.bytes, index_of(place, address), width as usize, value);
+        put_number(
+            &mut self.bytes,
+            index_of(place, address),
+            width as usize,
+            value,
+        );
         true
     }
 
@@ -320,6 +325,38 @@ mod tests {
             assert_eq!(rt; memory.permits(address, want), granted, "{address:x}");
         }
         Ok(())
+    }
+
+    #[test]
+    fn reads_where_the_page_says_so(rt: HostRuntime) {
+        for (bits, read, written, fetched) in [
+            (1, false, false, true),
+            (4, true, false, false),
+            (5, true, false, true),
+            (6, true, true, false),
+        ] {
+            let entries = [PageEntry {
+                page: 16,
+                perm: Perm { bits },
+            }];
+            let at = |granted| if granted { Some(0) } else { None };
+            assert_eq!(rt;
+                granting(&entries, 0, 0x10008, Want::Load),
+                at(read),
+                "{bits}"
+            );
+            assert_eq!(rt;
+                granting(&entries, 1, 0x10008, Want::Store),
+                at(written),
+                "{bits}"
+            );
+            assert_eq!(rt;
+                granting(&entries, 0, 0x10008, Want::Fetch),
+                at(fetched),
+                "{bits}"
+            );
+            assert_eq!(rt; granting(&entries, 0, 0x11000, Want::Load), None, "{bits}");
+        }
     }
 
     // The bytes of a range, where it can be read.

@@ -12,5 +12,5 @@ returns c =
     let bytes = c.args.bytes.now in
     let cut : at + width - at ≡ width = omega arith in
     let written : c.copy_from_slice.new.self ≡ little_endian width c.args.value =
-        c.copy_from_slice.ensures.after ∙ ap (λ (xs : List ℕ). take width xs) c.to_le_bytes.ensures ∙ first_of_eight c.args.value width c.requires.width in
+    c.copy_from_slice.ensures.after ∙ ap (λ (xs : List ℕ). take width xs) c.to_le_bytes.ensures ∙ first_of_eight c.args.value width c.requires.width in
     rw (cut, written, drop-drop width at bytes) refl
