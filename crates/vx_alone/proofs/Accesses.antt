@@ -1,18 +1,20 @@
 -- What an access finds in the memory that entries and bytes stand for.
-use Rattle.std.proofs.Common.{◌≡◌, ℕ, zero, suc, ◌+◌, ◌-◌, ◌*◌, ◌/◌, ◌%◌, ◌^◌, ◌<◌, ◌≤◌, Bool, true, false, ◌&&◌, leb, List, [], ◌∷◌, ◌++◌, length, get_or, take, drop, set, refl, sym, ap, subst, ◌∙◌, add_assoc, zero-add, add-zero, arith}
+use Rattle.std.proofs.Common.{◌≡◌, ℕ, zero, suc, ◌+◌, ◌-◌, ◌*◌, ◌/◌, ◌%◌, ◌^◌, ◌<◌, ◌≤◌, Bool, true, false, ◌&&◌, leb, List, [], ◌∷◌, ◌++◌, length, get_or, take, drop, set, refl, sym, ap, subst, ◌∙◌, add_assoc, zero-add, add-zero, IsTrue, take-append-drop, arith}
 use Rattle.std.proofs.Math.Bool.{and-false, and_assoc}
 use Rattle.std.proofs.Math.Nat.{mod-eq_of_lt, suc-add}
 use Rattle.std.proofs.Math.Seq.{drop-cons}
 use Rattle.std.proofs.lemmas.Bool.{false≢true, leb-true}
-use Rattle.std.proofs.lemmas.List.{drop_more}
+use Rattle.std.proofs.lemmas.List.{drop_more, length-set}
 use Rattle.std.proofs.lemmas.Nat.{div-mul-add, mod-mul-add, shr-shr}
 use Rattle.vx_base.specs.Permissions.{grants}
 use Rattle.vx_base.specs.declared.machine.Want.{Want}
 use Rattle.vx_base.specs.declared.perm.PageEntry.{PageEntry}
 use Rattle.vx_base.specs.declared.machine.Want.TheVariants.{Load}
-use Rattle.vx_flat.specs.Memory.{Memory, page_of, is_canonical, permits, byte_at, bytes_at, next_address, all_permit, put_byte}
+use Rattle.vx_flat.specs.Memory.{Memory, page_of, is_canonical, permits, byte_at, bytes_at, next_address, all_permit, put_byte, put_bytes}
 use Rattle.vx_flat.specs.Service.{is_readable}
+use Rattle.vx_scalar.specs.Operands.{is_access_width}
 use Rattle.vx_alone.specs.Pages.{pages_of, entry_at, IsRising, IsPlaceOf, IsGrantedAt, Lacks}
+use Rattle.vx_alone.proofs.Numbers.{put_next}
 use Rattle.vx_alone.proofs.Pages.{page_absent, permissions_at, byte_in_page, put_in_page}
 
 -- an address that isn't canonical is let through nowhere
@@ -76,6 +78,40 @@ module _ (entries : List PageEntry) (rising : IsRising entries) (bytes : List �
       (ap (λ (b : ℕ). b ∷ bytes_at (pages_of entries bytes) (next_address address) (suc count)) (byte_on_page offset address same (omega arith))
       ∙ ap (λ (a : ℕ). get_or bytes (4096 * k + offset) 0 ∷ bytes_at (pages_of entries bytes) a (suc count)) next
       ∙ ap (λ (bs : List ℕ). get_or bytes (4096 * k + offset) 0 ∷ bs) (rest ∙ ap (λ (n : ℕ). take (suc count) (drop n bytes)) shifted))
+
+module _ (entries : List PageEntry) (rising : IsRising entries) (page k : ℕ) (place : IsPlaceOf entries page k) where
+  -- the memory with the byte at an offset on the page at a place set
+  put_one : (bytes : List ℕ) (value offset address : ℕ) → address ≡ page * 4096 + offset → offset < 4096 → put_byte (pages_of entries bytes) address value ≡ pages_of entries (set bytes (4096 * k + offset) value)
+  put_one bytes value offset address same below =
+      let on : address / 4096 ≡ page = rw same (div-mul-add page 4096 offset below) in
+      let off : address % 4096 ≡ offset = rw same (mod-mul-add page 4096 offset below) in
+      let P : ℕ → Type 0 = λ n. IsPlaceOf entries n k in
+      put_there entries rising address k (subst P (sym on) place) bytes value ∙ ap (λ (n : ℕ). pages_of entries (set bytes (4096 * k + n) value)) off
+
+  -- the memory with the bytes from an offset on set, as far as the page goes
+  pub put_on_page : (values bytes : List ℕ) (offset address : ℕ) → address ≡ page * 4096 + offset → offset + length values ≤ 4096 → address + length values ≤ 2 ^ 64 → 4096 * k + offset + length values ≤ length bytes → put_bytes (pages_of entries bytes) address values ≡ pages_of entries (take (4096 * k + offset) bytes ++ (values ++ drop (4096 * k + offset + length values) bytes))
+  put_on_page [] bytes offset address same within fits long =
+      ap (pages_of entries) (sym (take-append-drop (4096 * k + offset) bytes) ∙ ap (λ (n : ℕ). take (4096 * k + offset) bytes ++ drop n bytes) (sym (add-zero (4096 * k + offset))))
+  put_on_page (value ∷ []) bytes offset address same within fits long =
+      let i = 4096 * k + offset in
+      let whole : set bytes i value ≡ take (i + 1) (set bytes i value) ++ drop (i + 1 + 0) (set bytes i value) =
+      sym (take-append-drop (i + 1) (set bytes i value)) ∙ ap (λ (n : ℕ). take (i + 1) (set bytes i value) ++ drop n (set bytes i value)) (sym (add-zero (i + 1))) in
+      put_one bytes value offset address same (omega arith)
+      ∙ ap (pages_of entries) (whole ∙ put_next bytes [] value i (omega arith))
+  put_on_page (value ∷ next ∷ values) bytes offset address same within fits long =
+      let i = 4096 * k + offset in
+      let after : next_address address ≡ address + 1 = next_is address (omega arith) in
+      let shifted : 4096 * k + (offset + 1) ≡ i + 1 = omega arith in
+      let rest = put_on_page (next ∷ values) (set bytes i value) (offset + 1) (address + 1) (omega arith) (omega arith) (omega arith) (omega (arith, length-set bytes i value)) in
+      ap (λ (m : Memory). put_bytes m (next_address address) (next ∷ values)) (put_one bytes value offset address same (omega arith))
+      ∙ ap (λ (a : ℕ). put_bytes (pages_of entries (set bytes i value)) a (next ∷ values)) after
+      ∙ rest
+      ∙ ap (λ (n : ℕ). pages_of entries (take n (set bytes i value) ++ ((next ∷ values) ++ drop (n + length (next ∷ values)) (set bytes i value)))) shifted
+      ∙ ap (pages_of entries) (put_next bytes (next ∷ values) value i (omega arith))
+
+-- an access whose address is a multiple of its width ends on its page, and below the last address
+pub ends_on_page : (width address : ℕ) → IsTrue (is_access_width width) → address % width ≡ 0 → address < 2 ^ 64 → (address % 4096 + width ≤ 4096) × (address + width ≤ 2 ^ 64)
+ends_on_page width address is aligned below = grind (arith, is, aligned, below)
 
 -- four bytes of a list, one by one
 take_four : (bytes : List ℕ) (i : ℕ) → i + 4 ≤ length bytes → take 4 (drop i bytes) ≡ get_or bytes i 0 ∷ get_or bytes (i + 1) 0 ∷ get_or bytes (i + 2) 0 ∷ get_or bytes (i + 3) 0 ∷ []

@@ -1,5 +1,6 @@
 pub mod Accesses
 pub mod Images
+pub mod Numbers
 pub mod Pages
 pub mod Performable
 pub mod Search

@@ -1,20 +1,20 @@
 -- The instructions of words name registers.
-use Rattle.std.proofs.Common.{◌≡◌, ℕ, ◌<◌, ◌^◌, ◌/◌, Bool, true, false, refl, subst, sym, lit<, pow_pos, mod-lt}
+use Rattle.std.proofs.Common.{ℕ, ◌<◌, ◌^◌, ◌/◌, Bool, true, false, lit<, pow_pos, mod-lt}
 use Rattle.std.specs.Prelude.{Option, Some, None, option_map, if◌then◌else◌}
 use Rattle.vx_base.specs.Numbers.{field}
 use Rattle.vx_decode.specs.Decoded.{decoded, with_operands}
 use Rattle.vx_decode.specs.declared.instr.Instr.{Instr}
-use Rattle.vx_rows.specs.Table.{row_of}
+use Rattle.vx_rows.specs.Table.{row_of, class_of}
 use Rattle.vx_rows.specs.declared.op.Op.{Op}
 use Rattle.vx_rows.specs.declared.row.Row.{Row}
 use Rattle.vx_rows.specs.declared.row.Shape.{Shape}
 use Rattle.vx_rows.specs.declared.row.Shape.TheVariants.{Registers, Immediate, Shift, ShiftWord, Load, Store, Branch, Upper, Jump, Fence, Csr, CsrNumber, Fixed}
-use Rattle.vx_alone.specs.Operands.{NamesRegisters, IsPerformable}
+use Rattle.vx_alone.specs.Operands.{IsPerformable}
+use Rattle.vx_scalar.specs.Operands.{NamesRegisters}
 use Rattle.vx_base.specs.declared.machine.Want.TheVariants.{Fetch}
 use Rattle.vx_flat.specs.Memory.{permits}
-use Rattle.vx_flat.specs.Scalar.{is_executed}
 use Rattle.vx_flat.specs.State.{Flat}
-use Rattle.vx_flat.specs.Step.{meaning, upcoming, word_at_pc}
+use Rattle.vx_flat.specs.Step.{is_executed, meaning, upcoming, word_at_pc}
 use Rattle.vx_flat.specs.declared.upcoming.Upcoming.{Upcoming}
 use Rattle.vx_flat.specs.declared.upcoming.Upcoming.TheVariants.{Denied, Illegal, Instruction}
 
@@ -47,7 +47,7 @@ IsPerformable-executed false word i p = tt
 
 IsPerformable-row : (word : ℕ) (row : Option Row) → IsPerformable (meaning word (option_map (λ (r : Row). with_operands word r.op r.shape) row))
 IsPerformable-row word None = tt
-IsPerformable-row word (Some r) = IsPerformable-executed (is_executed (with_operands word r.op r.shape).op) word (with_operands word r.op r.shape) (NamesRegisters-with_operands word r.op r.shape)
+IsPerformable-row word (Some r) = IsPerformable-executed (is_executed (class_of (with_operands word r.op r.shape).op)) word (with_operands word r.op r.shape) (NamesRegisters-with_operands word r.op r.shape)
 
 IsPerformable-if : (b : Bool) (u : Upcoming) → IsPerformable u → IsPerformable (if b then u else Denied)
 IsPerformable-if true u p = p

@@ -1,17 +1,19 @@
--- The registers that an instruction names. This project's own.
-use Rattle.std.specs.Prelude.{ℕ, ◌<◌}
-use Rattle.vx_decode.specs.declared.instr.Instr.{Instr}
+-- What the machine's parts ask of what comes next. This project's own.
+use Rattle.std.specs.Prelude.{◌≡◌, ◌%◌}
+use Rattle.vx_flat.specs.declared.effect.Effect.{Effect}
+use Rattle.vx_flat.specs.declared.effect.Effect.TheVariants.{Value, Next, Misaligned}
 use Rattle.vx_flat.specs.declared.upcoming.Upcoming.{Upcoming}
 use Rattle.vx_flat.specs.declared.upcoming.Upcoming.TheVariants.{Denied, Illegal, Instruction}
+use Rattle.vx_scalar.specs.Operands.{NamesRegisters}
 
--- each register number is that of a register
-pub record NamesRegisters (i : Instr) : Type 0 where
-  pub rd : i.rd < 32
-  pub rs1 : i.rs1 < 32
-  pub rs2 : i.rs2 < 32
-
--- so it is where an instruction comes next
+-- where an instruction comes next, each register that it names is one
 abbrev pub IsPerformable : Upcoming → Type 0
 IsPerformable Denied = Unit {0}
 IsPerformable (Illegal word) = Unit {0}
 IsPerformable (Instruction i) = NamesRegisters i
+
+-- the next pc is a multiple of 4
+abbrev pub IsAligned : Effect → Type 0
+IsAligned (Value value pc) = pc % 4 ≡ 0
+IsAligned (Next pc) = pc % 4 ≡ 0
+IsAligned (Misaligned target) = Unit {0}

@@ -1,27 +1,29 @@
-ghost use Rattle.std.specs.Prelude.{◌≡◌, ◌≤◌, ◌^◌, ◌++◌, length, None, IfSome};
+ghost use Rattle.std.specs.Prelude.{◌≡◌, ◌<◌, ◌≤◌, ◌%◌, ◌^◌, ◌++◌, length, None, IfSome, IsTrue};
 ghost use Rattle.vx_alone.specs.Turns.{Boots, turn_of};
 ghost use Rattle.vx_flat.specs.Process.{after, begun, stepped};
-ghost use Rattle.vx_alone.specs.Operands.{NamesRegisters, IsPerformable};
+ghost use Rattle.vx_alone.specs.Operands.{IsAligned, IsPerformable};
 ghost use Rattle.vx_base.specs.Numbers.{signed};
 ghost use Rattle.vx_decode.specs.Decoded.{decoded};
 ghost use Rattle.vx_flat.specs.Image.{raw_fault, raw_image};
 ghost use Rattle.vx_flat.specs.Service.{service, answered, write};
 ghost use Rattle.vx_flat.specs.State.{following, register};
-ghost use Rattle.vx_flat.specs.Step.{meaning, upcoming, performed, performed_as, compute, branch, jump, store, ecall, faulted};
+ghost use Rattle.vx_flat.specs.Scalar.{effect};
+ghost use Rattle.vx_flat.specs.Step.{meaning, is_executed, upcoming, performed, performed_as, affected, load, load_from, store, store_at, ecall, faulted};
 ghost use Rattle.vx_flat.specs.Step.Outcome.{Next, Exited};
 ghost use Rattle.vx_rows.specs.Table.{class_of};
+ghost use Rattle.vx_scalar.specs.Operands.{NamesRegisters, is_access_width};
 
-use crate::arch::{Arch, Regs};
+use crate::arch::Arch;
 use crate::memory::Memory;
-use crate::scalar::is_executed;
 use crate::service::write;
 use crate::turn::Turn;
 use std::alloc::Global;
 use std::marker::Model;
 use vx_base::Fault;
 use vx_decode::{Instr, decode};
-use vx_flat::{End, ImageFault, Upcoming};
+use vx_flat::{Effect, End, ImageFault, Upcoming};
 use vx_rows::Class;
+use vx_scalar::{Regs, access_width, loaded, scalar, scalar_address};
 
 /// The flat machine: one process alone, an instruction at a time. It takes all its memory at boot.
 #[derive(Debug, Drop)]
@@ -156,44 +158,71 @@ impl Alone {
         ensures { self.new ≡ after self.old (performed_as (class_of i.op) self.old.state i) }
     {
         match i.op.class() {
-            Class::Arithmetic => self.compute(i),
-            Class::Branch => self.branch(i),
+            Class::Load => self.load(i),
             Class::Store => self.store(i),
             Class::Ecall => self.ecall(),
-            _ => self.fault(2, 0),
+            Class::Ebreak => self.fault(3, 0),
+            Class::Csr => self.fault(2, 0),
+            _ => self.affect(i),
         }
     }
 
-    /// Does an instruction that computes.
-    fn compute(&mut self, i: Instr)
+    /// Does an instruction that touches no memory.
+    fn affect(&mut self, i: Instr)
         requires running { self.old.over ≡ None }
         requires registers { NamesRegisters i }
-        ensures { self.new ≡ after self.old (compute self.old.state i) }
+        ensures { self.new ≡ after self.old (affected self.old.state i.rd (effect i self.old.state.x self.old.state.pc)) }
     {
-        self.arch.compute(i);
-        self.complete();
+        let effect = scalar(&i, &self.arch.regs, self.arch.pc);
+        self.take(i.rd, effect);
     }
 
-    /// Does a branch.
-    fn branch(&mut self, i: Instr)
+    /// Takes the effect of an instruction with this destination.
+    fn take(&mut self, rd: u8, effect: Effect)
+        requires running { self.old.over ≡ None }
+        requires register { rd < 32 }
+        requires aligned { IsAligned effect }
+        ensures { self.new ≡ after self.old (affected self.old.state rd effect) }
+    {
+        match effect {
+            Effect::Value(value, pc) => {
+                self.arch.regs.write(rd, value);
+                self.go_on(pc);
+            }
+            Effect::Next(pc) => self.go_on(pc),
+            Effect::Misaligned(target) => self.fault(0, target),
+        }
+    }
+
+    /// Does a load.
+    fn load(&mut self, i: Instr)
         requires running { self.old.over ≡ None }
         requires registers { NamesRegisters i }
-        ensures { self.new ≡ after self.old (branch self.old.state i) }
+        ensures { self.new ≡ after self.old (load self.old.state i) }
     {
-        let target = self.arch.after_branch(i);
-        self.jump(target);
-    }
-
-    /// Goes on at a target.
-    fn jump(&mut self, target: u64)
-        requires running { self.old.over ≡ None }
-        ensures { self.new ≡ after self.old (jump self.old.state target) }
-    {
-        if target % 4 == 0 {
-            self.arch.pc = target;
-            self.count = self.count.saturating_add(1);
+        let address = scalar_address(&i, &self.arch.regs);
+        let width = access_width(i.op);
+        if address % width == 0 {
+            self.load_aligned(i, address, width);
         } else {
-            self.fault(0, target);
+            self.fault(4, address);
+        }
+    }
+
+    /// Does a load from an address that is a multiple of its width.
+    fn load_aligned(&mut self, i: Instr, address: u64, width: u64)
+        requires running { self.old.over ≡ None }
+        requires register { i.rd < 32 }
+        requires width { IsTrue (is_access_width width) }
+        requires aligned { address % width ≡ 0 }
+        ensures { self.new ≡ after self.old (load_from self.old.state i address width) }
+    {
+        match self.memory.load(address, width) {
+            Some(n) => {
+                self.arch.regs.write(i.rd, loaded(i.op, n));
+                self.complete();
+            }
+            None => self.fault(13, address),
         }
     }
 
@@ -203,9 +232,24 @@ impl Alone {
         requires registers { NamesRegisters i }
         ensures { self.new ≡ after self.old (store self.old.state i) }
     {
-        let address = self.arch.access_address(i);
-        let byte = (self.arch.regs.read(i.rs2) & 0xff) as u8;
-        if self.memory.store_byte(address, byte) {
+        let address = scalar_address(&i, &self.arch.regs);
+        let width = access_width(i.op);
+        let value = self.arch.regs.read(i.rs2);
+        if address % width == 0 {
+            self.store_aligned(address, width, value);
+        } else {
+            self.fault(6, address);
+        }
+    }
+
+    /// Does a store at an address that is a multiple of its width.
+    fn store_aligned(&mut self, address: u64, width: u64, value: u64)
+        requires running { self.old.over ≡ None }
+        requires width { IsTrue (is_access_width width) }
+        requires aligned { address % width ≡ 0 }
+        ensures { self.new ≡ after self.old (store_at self.old.state address width value) }
+    {
+        if self.memory.store(address, width, value) {
             self.complete();
         } else {
             self.fault(15, address);
@@ -265,8 +309,18 @@ impl Alone {
         requires running { self.old.over ≡ None }
         ensures { self.new ≡ after self.old (Next (record self.old.state { pc = following self.old.state })) }
     {
-        self.arch.follow();
+        self.go_on(self.arch.pc.wrapping_add(4));
+    }
+
+    /// The instruction has completed, and the process goes on at a pc.
+    fn go_on(&mut self, pc: u64)
+        requires running { self.old.over ≡ None }
+        requires aligned { pc % 4 ≡ 0 }
+        ensures { self.new ≡ after self.old (Next (record self.old.state { pc = pc })) }
+    {
+        self.arch.pc = pc;
         self.count = self.count.saturating_add(1);
+        self.memory.aim(pc);
     }
 
     /// The process ends at a fault.
@@ -327,7 +381,14 @@ fn meaning(word: u32) -> Upcoming
     ensures { result ≡ meaning word (decoded word) }
 {
     match decode(word) {
-        Some(i) if is_executed(i.op) => Upcoming::Instruction(i),
+        Some(i) if is_executed(i.op.class()) => Upcoming::Instruction(i),
         _ => Upcoming::Illegal(word),
     }
+}
+
+/// Whether the machine executes the rows of a class.
+fn is_executed(class: Class) -> bool
+    ensures { result ≡ is_executed class }
+{
+    !matches!(class, Class::Csr)
 }

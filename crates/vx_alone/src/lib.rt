@@ -1,19 +1,19 @@
 //! The flat machine as a program: one process alone, an instruction at a time, on memory by page.
 //!
-//! It stands on `vx_decode` and on the definitions of `vx_flat`, which it computes plainly. To the crates above it gives
+//! It stands on `vx_decode`, on the effects of `vx_scalar` and on the definitions of `vx_flat`, which it computes plainly. To the crates above it gives
 //! `Alone`: its boot is the boot of the image, each of its steps is the flat step, and it takes no memory after boot.
 #![tactic(auto)]
 
 mod alone;
 mod arch;
 mod memory;
-mod scalar;
 mod service;
 #[cfg(test)]
 mod tests;
 mod turn;
 
 pub use alone::Alone;
-pub use arch::{Arch, Regs};
+pub use arch::Arch;
 pub use turn::Turn;
 pub use vx_flat::{End, ImageFault, Upcoming};
+pub use vx_scalar::Regs;

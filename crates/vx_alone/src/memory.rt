@@ -1,10 +1,11 @@
-ghost use Rattle.std.specs.Prelude.{◌≡◌, ℕ, ◌+◌, ◌-◌, ◌*◌, ◌<◌, ◌≤◌, ◌%◌, ◌^◌, ◌++◌, List, min, true, false, None, IfOk, OnOk, MatchOption, vec_len, vec_capacity, if◌then◌else◌};
-ghost use Rattle.vx_base.specs.Numbers.{from_little_endian};
+ghost use Rattle.std.specs.Prelude.{◌≡◌, ℕ, ◌+◌, ◌-◌, ◌*◌, ◌<◌, ◌≤◌, ◌%◌, ◌^◌, ◌++◌, List, take, drop, length, min, true, false, None, IfOk, OnOk, IsTrue, MatchOption, vec_len, vec_capacity, if◌then◌else◌};
+ghost use Rattle.vx_base.specs.Numbers.{from_little_endian, little_endian};
 ghost use Rattle.vx_base.specs.declared.machine.Want.TheVariants as want;
 ghost use Rattle.vx_flat.specs.Image.{raw_fault, raw_image};
-ghost use Rattle.vx_flat.specs.Memory.{permits, bytes_at, all_permit, put_byte, is_canonical};
+ghost use Rattle.vx_flat.specs.Memory.{permits, bytes_at, all_permit, put_bytes, is_canonical};
 ghost use Rattle.vx_flat.specs.Service.{is_readable};
 ghost use Rattle.vx_alone.specs.Pages.{pages_of, IsRising, IsPlaceOf, IsGrantedAt, IsKept, Lacks, run_of};
+ghost use Rattle.vx_scalar.specs.Operands.{is_access_width};
 
 use std::alloc::{AllocError, Global};
 use std::marker::Model;
@@ -31,11 +32,15 @@ const IMAGE_PERM: Perm = Perm { bits: 5 };
 /// The permissions of the stack's pages: R and W.
 const STACK_PERM: Perm = Perm { bits: 6 };
 
-/// The memory of a process, by page: the entries of the mapped pages in rising order, and the bytes of all of them.
+/// The memory of a process, by page: the entries of the mapped pages in rising order, and the bytes of all of them. It
+/// keeps the places of the last page that was aimed at and of the last that was loaded from or stored to, at which a search
+/// looks first.
 #[derive(Debug, Drop)]
 pub struct Memory {
     entries: Vec<PageEntry>,
     bytes: Vec<u8>,
+    code: usize,
+    data: usize,
 }
 
 impl Model for Memory {
@@ -63,14 +68,19 @@ impl Memory {
         let mut entries = Vec::with_capacity(alloc, count + STACK_PAGES)?;
         push_run(&mut entries, IMAGE_PAGE, count, IMAGE_PERM)?;
         push_run(&mut entries, STACK_PAGE, STACK_PAGES, STACK_PERM)?;
-        Ok(Memory { entries, bytes })
+        Ok(Memory {
+            entries,
+            bytes,
+            code: 0,
+            data: 0,
+        })
     }
 
     /// Whether an access of this kind is let through at an address.
     pub fn permits(&self, address: u64, want: Want) -> bool
         ensures { result ≡ permits self.now address want }
     {
-        granting(&self.entries, address, want).is_some()
+        granting(&self.entries, self.data, address, want).is_some()
     }
 
     /// The instruction word at an address that is a multiple of 4; `None` exactly where it can't be fetched.
@@ -79,7 +89,7 @@ impl Memory {
         ensures { MatchOption result (permits self.now address want.Fetch ≡ false) (λ word.
             (permits self.now address want.Fetch ≡ true) × (word ≡ from_little_endian (bytes_at self.now address 4))) }
     {
-        let place = granting(&self.entries, address, Want::Fetch)?;
+        let place = granting(&self.entries, self.code, address, Want::Fetch)?;
         let at = index_of(place, address);
         Some(u32::from_le_bytes([
             self.bytes[at],
@@ -89,18 +99,48 @@ impl Memory {
         ]))
     }
 
-    /// Stores a byte where that is let through, and says whether it was.
-    pub fn store_byte(&mut self, address: u64, byte: u8) -> bool
-        ensures stored { result ≡ permits self.old address want.Store }
-        ensures memory { self.new ≡ (if result then put_byte self.old address byte else self.old) }
+    /// Lets the fetches to come look first at the page of an address.
+    pub fn aim(&mut self, address: u64)
+        ensures { self.new ≡ self.old }
     {
-        match granting(&self.entries, address, Want::Store) {
-            Some(place) => {
-                self.bytes[index_of(place, address)] = byte;
-                true
-            }
-            None => false,
+        if let Some(place) = place_of(&self.entries, self.code, address / PAGE_BYTES) {
+            self.code = place;
         }
+    }
+
+    /// The number that so many bytes from an address on are, least first; `None` exactly where they can't be read. The
+    /// address is a multiple of their count.
+    pub fn load(&mut self, address: u64, width: u64) -> Option<u64>
+        requires width { IsTrue (is_access_width width) }
+        requires aligned { address % width ≡ 0 }
+        ensures memory { self.new ≡ self.old }
+        ensures number { MatchOption result (permits self.old address want.Load ≡ false) (λ n.
+            (permits self.old address want.Load ≡ true) × (n ≡ from_little_endian (bytes_at self.old address width))) }
+    {
+        let place = granting(&self.entries, self.data, address, Want::Load)?;
+        self.data = place;
+        Some(number_at(&self.bytes, index_of(place, address), width as usize))
+    }
+
+    /// Stores the low bytes of a number from an address on, least first, where that is let through, and says whether it was.
+    /// The address is a multiple of their count.
+    pub fn store(&mut self, address: u64, width: u64, value: u64) -> bool
+        requires width { IsTrue (is_access_width width) }
+        requires aligned { address % width ≡ 0 }
+        ensures stored { result ≡ permits self.old address want.Store }
+        ensures memory { self.new ≡ (if result then put_bytes self.old address (little_endian width value) else self.old) }
+    {
+        let Some(place) = granting(&self.entries, self.data, address, Want::Store) else {
+            return false;
+        };
+        self.data = place;
+        put_number(
+            &mut self.bytes,
+            index_of(place, address),
+            width as usize,
+            value,
+        );
+        true
     }
 
     /// Whether each of so many bytes from an address on can be read, and none lies past the last address.
@@ -150,7 +190,7 @@ fn all_readable(entries: &[PageEntry], address: u64, count: u64) -> bool
     let mut done = 0;
     while done < count {
         let at = address + done;
-        let Some(_) = granting(entries, at, Want::Load) else {
+        let Some(_) = granting(entries, 0, at, Want::Load) else {
             return false;
         };
         done += count_on_page(at, count - done);
@@ -169,7 +209,7 @@ fn append_readable(entries: &[PageEntry], bytes: &[u8], address: u64, count: u64
     let mut done = 0;
     while done < count {
         let at = address + done;
-        let Some(place) = granting(entries, at, Want::Load) else {
+        let Some(place) = granting(entries, 0, at, Want::Load) else {
             unreachable!()
         };
         let step = count_on_page(at, count - done);
@@ -194,15 +234,35 @@ fn index_of(place: usize, address: u64) -> usize
     PAGE_LEN * place + (address % PAGE_BYTES) as usize
 }
 
-/// The place of an address's page, where an access of this kind is let through.
-fn granting(entries: &[PageEntry], address: u64, want: Want) -> Option<usize>
+/// The number that so many bytes from an index on are, least first.
+fn number_at(bytes: &[u8], at: usize, width: usize) -> u64
+    requires width { width ≤ 8 }
+    requires within { at + width ≤ length bytes.now }
+    ensures { result ≡ from_little_endian (take width (drop at bytes.now)) }
+{
+    let mut number = [0; 8];
+    number[..width].copy_from_slice(&bytes[at..at + width]);
+    u64::from_le_bytes(number)
+}
+
+/// Puts the low bytes of a number from an index on, least first.
+fn put_number(bytes: &mut [u8], at: usize, width: usize, value: u64)
+    requires width { width ≤ 8 }
+    requires within { at + width ≤ length bytes.old }
+    ensures { bytes.new ≡ take at bytes.old ++ (little_endian width value ++ drop (at + width) bytes.old) }
+{
+    bytes[at..at + width].copy_from_slice(&value.to_le_bytes()[..width]);
+}
+
+/// The place of an address's page, where an access of this kind is let through. Looks at `first` before it searches.
+fn granting(entries: &[PageEntry], first: usize, address: u64, want: Want) -> Option<usize>
     requires { IsRising entries.now }
     ensures { MatchOption result ((bytes : List ℕ) → permits (pages_of entries.now bytes) address want ≡ false) (IsGrantedAt entries.now address want) }
 {
     if !is_canonical(address) {
         return None;
     }
-    let Some(place) = place_of(entries, address / PAGE_BYTES) else {
+    let Some(place) = place_of(entries, first, address / PAGE_BYTES) else {
         return None;
     };
     if entries[place].perm.grants(want) {
@@ -220,8 +280,19 @@ fn is_canonical(address: u64) -> bool
     top == 0 || top == (1 << 26) - 1
 }
 
-/// The place of the entry of a page, where one has it.
-fn place_of(entries: &[PageEntry], page: u64) -> Option<usize>
+/// The place of the entry of a page, where one has it. Looks at `first` before it searches.
+fn place_of(entries: &[PageEntry], first: usize, page: u64) -> Option<usize>
+    requires { IsRising entries.now }
+    ensures { MatchOption result (Lacks entries.now page) (IsPlaceOf entries.now page) }
+{
+    if first < entries.len() && entries[first].page == page {
+        return Some(first);
+    }
+    searched(entries, page)
+}
+
+/// The place of the entry of a page, where one has it, by a search.
+fn searched(entries: &[PageEntry], page: u64) -> Option<usize>
     requires { IsRising entries.now }
     ensures { MatchOption result (Lacks entries.now page) (IsPlaceOf entries.now page) }
 {
@@ -256,6 +327,38 @@ mod tests {
         Ok(())
     }
 
+    #[test]
+    fn reads_where_the_page_says_so(rt: HostRuntime) {
+        for (bits, read, written, fetched) in [
+            (1, false, false, true),
+            (4, true, false, false),
+            (5, true, false, true),
+            (6, true, true, false),
+        ] {
+            let entries = [PageEntry {
+                page: 16,
+                perm: Perm { bits },
+            }];
+            let at = |granted| if granted { Some(0) } else { None };
+            assert_eq!(rt;
+                granting(&entries, 0, 0x10008, Want::Load),
+                at(read),
+                "{bits}"
+            );
+            assert_eq!(rt;
+                granting(&entries, 1, 0x10008, Want::Store),
+                at(written),
+                "{bits}"
+            );
+            assert_eq!(rt;
+                granting(&entries, 0, 0x10008, Want::Fetch),
+                at(fetched),
+                "{bits}"
+            );
+            assert_eq!(rt; granting(&entries, 0, 0x11000, Want::Load), None, "{bits}");
+        }
+    }
+
     // The bytes of a range, where it can be read.
     fn read(
         memory: &Memory,
@@ -279,7 +382,7 @@ mod tests {
             (0x3f_ffff_1000, 9, true),
             (0x10000, 1, false),
         ] {
-            assert_eq!(rt; memory.store_byte(address, byte), stored, "{address:x}");
+            assert_eq!(rt; memory.store(address, 1, byte), stored, "{address:x}");
         }
         for (address, count, readable) in [
             (0x3f_ffff_0000, 0x10000, true),

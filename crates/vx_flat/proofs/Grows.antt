@@ -7,10 +7,13 @@ use Rattle.vx_decode.specs.declared.instr.Instr.{Instr}
 use Rattle.vx_rows.specs.declared.row.Class.{Class}
 use Rattle.vx_rows.specs.declared.row.Class.TheVariants as class
 use Rattle.vx_flat.specs.Image.{Image}
+use Rattle.vx_flat.specs.Scalar.{effect}
 use Rattle.vx_flat.specs.Run.{flat, state_after, IsPrefixOf}
 use Rattle.vx_flat.specs.State.{Flat}
-use Rattle.vx_flat.specs.Step.{Outcome, step, performed, performed_as, upcoming}
+use Rattle.vx_flat.specs.Step.{Outcome, step, performed, performed_as, affected, upcoming}
 use Rattle.vx_flat.specs.Step.Outcome.{Next, Exited, Faulted}
+use Rattle.vx_flat.specs.declared.effect.Effect.{Effect}
+use Rattle.vx_flat.specs.declared.effect.Effect.TheVariants as effect
 use Rattle.vx_flat.specs.declared.upcoming.Upcoming.{Upcoming}
 use Rattle.vx_flat.specs.declared.upcoming.Upcoming.TheVariants.{Denied, Illegal, Instruction}
 
@@ -33,18 +36,18 @@ Keeps written (Faulted fault s) = Unit {0}
 Keeps-if : (written : List ℕ) (b : Bool) (x y : Outcome) → Keeps written x → Keeps written y → Keeps written (if b then x else y)
 Keeps-if written b x y p q = elim b as (λ v. Keeps written (if v then x else y)) [ true ↦ p | false ↦ q ]
 
+Keeps-affected : (s : Flat) (rd : ℕ) (e : Effect) → Keeps s.output (affected s rd e)
+Keeps-affected s rd (effect.Value value pc) = IsPrefixOf-refl s.output
+Keeps-affected s rd (effect.Next pc) = IsPrefixOf-refl s.output
+Keeps-affected s rd (effect.Misaligned target) = tt
+
 Keeps-performed_as : (c : Class) (s : Flat) (i : Instr) → Keeps s.output (performed_as c s i)
-Keeps-performed_as class.Arithmetic s i = IsPrefixOf-refl s.output
-Keeps-performed_as class.Branch s i = search (Keeps-if, IsPrefixOf-refl)
+Keeps-performed_as class.Load s i = search (Keeps-if, IsPrefixOf-refl)
 Keeps-performed_as class.Store s i = search (Keeps-if, IsPrefixOf-refl)
 Keeps-performed_as class.Ecall s i = search (Keeps-if, IsPrefixOf-append)
-Keeps-performed_as class.Multiply s i = tt
-Keeps-performed_as class.Divide s i = tt
-Keeps-performed_as class.Jump s i = tt
-Keeps-performed_as class.Load s i = tt
-Keeps-performed_as class.Fence s i = tt
 Keeps-performed_as class.Ebreak s i = tt
 Keeps-performed_as class.Csr s i = tt
+Keeps-performed_as other s i = Keeps-affected s i.rd (effect i s.x s.pc)
 
 Keeps-performed : (s : Flat) (u : Upcoming) → Keeps s.output (performed s u)
 unfolding performed

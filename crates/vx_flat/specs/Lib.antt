@@ -1,3 +1,4 @@
+pub mod Access
 pub mod Image
 pub mod Memory
 pub mod Process

@@ -1,7 +1,8 @@
 -- The state of the flat machine: RISC-V Unprivileged ISA 20191213, section 2.1 (registers and pc). What a process has
 -- written is this project's own.
-use Rattle.std.specs.Prelude.{ℕ, ◌+◌, ◌%◌, ◌^◌, ◌==◌, List, if◌then◌else◌, slice_index, slice_set}
+use Rattle.std.specs.Prelude.{ℕ, ◌==◌, List, if◌then◌else◌, slice_index, slice_set}
 use Rattle.vx_flat.specs.Memory.{Memory}
+use Rattle.vx_flat.specs.Scalar.{next_pc}
 
 pub record Flat : Type 0 where
   pub pc : ℕ
@@ -20,4 +21,4 @@ with_register x rd value = if rd == 0 then x else slice_set x rd value
 
 -- the pc of the instruction that follows
 abbrev pub following : Flat → ℕ
-following s = (s.pc + 4) % 2 ^ 64
+following s = next_pc s.pc

@@ -1,18 +1,21 @@
--- The step of the flat machine: RISC-V Unprivileged ISA 20191213, chapters 2 and 5; causes and trap values of RISC-V
+-- The step of the flat machine: RISC-V Unprivileged ISA 20191213, chapters 2, 5 and 7; causes and trap values of RISC-V
 -- Privileged 1.12, sections 4.1.8 and 4.1.9. The causes stand in the order in which they are tested.
-use Rattle.std.specs.Prelude.{ℕ, ◌%◌, not, ◌==◌, ℤ, pos, ◌+ℤ◌, Option, Some, None, if◌then◌else◌}
-use Rattle.vx_base.specs.Numbers.{reduced, signed, little_endian, from_little_endian}
+use Rattle.std.specs.Prelude.{ℕ, ◌%◌, Bool, true, false, not, ◌==◌, ℤ, Option, Some, None, if◌then◌else◌}
+use Rattle.vx_base.specs.Numbers.{signed, little_endian, from_little_endian}
 use Rattle.vx_base.specs.declared.machine.Fault.{Fault}
-use Rattle.vx_base.specs.declared.machine.Want.TheVariants.{Fetch, Store}
+use Rattle.vx_base.specs.declared.machine.Want.TheVariants.{Fetch, Load, Store}
 use Rattle.vx_decode.specs.Decoded.{decoded}
 use Rattle.vx_decode.specs.declared.instr.Instr.{Instr}
 use Rattle.vx_rows.specs.Table.{class_of}
 use Rattle.vx_rows.specs.declared.row.Class.{Class}
 use Rattle.vx_rows.specs.declared.row.Class.TheVariants as class
+use Rattle.vx_flat.specs.Access.{access_address, access_width, loaded}
 use Rattle.vx_flat.specs.Memory.{permits, bytes_at, put_bytes}
-use Rattle.vx_flat.specs.Scalar.{is_executed, computed, is_taken, access_width}
+use Rattle.vx_flat.specs.Scalar.{effect}
 use Rattle.vx_flat.specs.Service.{service, answered}
 use Rattle.vx_flat.specs.State.{Flat, register, with_register, following}
+use Rattle.vx_flat.specs.declared.effect.Effect.{Effect}
+use Rattle.vx_flat.specs.declared.effect.Effect.TheVariants as effect
 use Rattle.vx_flat.specs.declared.upcoming.Upcoming.{Upcoming}
 use Rattle.vx_flat.specs.declared.upcoming.Upcoming.TheVariants.{Denied, Illegal, Instruction}
 
@@ -27,10 +30,15 @@ pub data Outcome : Type 0 where
 abbrev pub faulted : Flat → (cause tval : ℕ) → Outcome
 faulted s cause tval = Faulted (record { cause = cause; tval = tval; vstart = 0 }) s
 
--- what a word means, as what comes next; one whose operation isn't executed yet is illegal
+-- the rows that the machine executes: there are no control registers yet
+abbrev pub is_executed : Class → Bool
+is_executed class.Csr = false
+is_executed other = true
+
+-- what a word means, as what comes next; one whose row isn't executed is illegal
 abbrev pub meaning : ℕ → Option Instr → Upcoming
 meaning word None = Illegal word
-meaning word (Some i) = if is_executed i.op then Instruction i else Illegal word
+meaning word (Some i) = if is_executed (class_of i.op) then Instruction i else Illegal word
 
 -- the word at the pc
 abbrev pub word_at_pc : Flat → ℕ
@@ -40,27 +48,21 @@ word_at_pc s = from_little_endian (bytes_at s.memory s.pc 4)
 unfoldable pub upcoming : Flat → Upcoming
 upcoming s = if permits s.memory s.pc Fetch then meaning (word_at_pc s) (decoded (word_at_pc s)) else Denied
 
--- an instruction that computes
-abbrev pub compute : Flat → Instr → Outcome
-compute s i = Next (record s {
-  pc = following s;
-  x = with_register s.x i.rd (computed i.op s.pc (register s i.rs1) (register s i.rs2) i.imm);
-})
+-- an instruction that touches no memory, of which rd is the destination
+abbrev pub affected : Flat → (rd : ℕ) → Effect → Outcome
+affected s rd (effect.Value value pc) = Next (record s { pc = pc; x = with_register s.x rd value })
+affected s rd (effect.Next pc) = Next (record s { pc = pc })
+affected s rd (effect.Misaligned target) = faulted s 0 target
 
--- a jump to a target, which is to be a multiple of 4
-abbrev pub jump : Flat → ℕ → Outcome
-jump s target =
-    if target % 4 == 0 then Next (record s { pc = target }) else faulted s 0 target
+-- a load of so many bytes from an address, which is to be a multiple of their number
+abbrev pub load_from : Flat → Instr → (address width : ℕ) → Outcome
+load_from s i address width =
+    if not (address % width == 0) then faulted s 4 address
+    else if not (permits s.memory address Load) then faulted s 13 address
+    else Next (record s { pc = following s; x = with_register s.x i.rd (loaded i.op (from_little_endian (bytes_at s.memory address width))) })
 
--- a branch, which falls through where it isn't taken
-abbrev pub branch : Flat → Instr → Outcome
-branch s i =
-    if is_taken i.op (register s i.rs1) (register s i.rs2) then jump s (reduced 64 (pos s.pc +ℤ i.imm))
-    else Next (record s { pc = following s })
-
--- the address of a load or a store
-abbrev pub access_address : Flat → Instr → ℕ
-access_address s i = reduced 64 (pos (register s i.rs1) +ℤ i.imm)
+abbrev pub load : Flat → Instr → Outcome
+load s i = load_from s i (access_address i s.x) (access_width i.op)
 
 -- the low bytes of a number stored at an address, which is to be a multiple of their number
 abbrev pub store_at : Flat → (address width value : ℕ) → Outcome
@@ -70,7 +72,7 @@ store_at s address width value =
     else Next (record s { pc = following s; memory = put_bytes s.memory address (little_endian width value) })
 
 abbrev pub store : Flat → Instr → Outcome
-store s i = store_at s (access_address s i) (access_width i.op) (register s i.rs2)
+store s i = store_at s (access_address i s.x) (access_width i.op) (register s i.rs2)
 
 -- a service; number 93 exits with a0
 abbrev pub ecall : Flat → Outcome
@@ -80,12 +82,13 @@ ecall s =
 
 -- an instruction of a class
 abbrev pub performed_as : Class → Flat → Instr → Outcome
-performed_as class.Arithmetic s i = compute s i
-performed_as class.Branch s i = branch s i
+performed_as class.Load s i = load s i
 performed_as class.Store s i = store s i
 performed_as class.Ecall s i = ecall s
--- no instruction of another class is executed yet
-performed_as other s i = faulted s 2 0
+performed_as class.Ebreak s i = faulted s 3 0
+-- no such instruction comes next
+performed_as class.Csr s i = faulted s 2 0
+performed_as other s i = affected s i.rd (effect i s.x s.pc)
 
 -- what comes next, done
 unfoldable pub performed : Flat → Upcoming → Outcome

@@ -7,19 +7,24 @@ use Rattle.vx_decode.specs.declared.instr.Instr.{Instr}
 use Rattle.vx_rows.specs.Table.{class_of}
 use Rattle.vx_rows.specs.declared.row.Class.{Class}
 use Rattle.vx_rows.specs.declared.row.Class.TheVariants as class
-use Rattle.vx_base.specs.declared.machine.Want.TheVariants.{Store}
+use Rattle.vx_base.specs.Numbers.{reduced}
+use Rattle.vx_base.specs.declared.machine.Want.TheVariants.{Load, Store}
+use Rattle.vx_flat.specs.Access.{access_address}
 use Rattle.vx_flat.specs.Memory.{permits}
 use Rattle.vx_flat.specs.Process.{Process, after, stepped}
-use Rattle.vx_flat.specs.State.{Flat}
-use Rattle.vx_flat.specs.Step.{Outcome, upcoming, performed, performed_as, branch, step, access_address}
+use Rattle.vx_flat.specs.Scalar.{effect, effect_as}
+use Rattle.vx_flat.specs.State.{Flat, register}
+use Rattle.vx_flat.specs.Step.{Outcome, upcoming, performed, performed_as, affected, step}
 use Rattle.vx_flat.specs.Step.Outcome.{Next, Exited, Faulted}
+use Rattle.vx_flat.specs.declared.effect.Effect.{Effect}
+use Rattle.vx_flat.specs.declared.effect.Effect.TheVariants as effect
 use Rattle.vx_flat.specs.declared.end.End.{End}
 use Rattle.vx_flat.specs.declared.upcoming.Upcoming.{Upcoming}
 use Rattle.vx_flat.specs.declared.upcoming.Upcoming.TheVariants.{Denied, Illegal, Instruction}
 use Rattle.vx_times.specs.Cycles.{end_cycle}
 use Rattle.vx_times.specs.Episode.{Event, EpisodeEnd, event, episode, run_on, process_at, ended}
 use Rattle.vx_times.specs.Episode.Event.{Stops, Retires}
-use Rattle.vx_times.specs.Footprint.{Footprint, footprint, footprint_of, footprint_as, branching}
+use Rattle.vx_times.specs.Footprint.{Footprint, footprint, footprint_of, footprint_as, turning}
 use Rattle.vx_times.specs.Footprint.SerialStop.{Serves, Faults}
 use Rattle.vx_times.specs.History.{Organisation, History, AccessTimes, BatchTimes, greatest, batches_of, accesses_of, done_cycles}
 use Rattle.vx_times.specs.declared.pause.Pause.{Pause}
@@ -39,16 +44,24 @@ Ends (Next s) = ⊥
 Ends (Exited code) = Unit {0}
 Ends (Faulted fault s) = Unit {0}
 
--- a branch
-branch-retires : (lanes banks bank_time start r k : ℕ) (history : History) (i : Instr) (o : Outcome) → IsQuiet (in_order lanes banks bank_time) start r history → k ≡ r + 3 → GoesOn o → RetiresAt (in_order lanes banks bank_time) start history (branching i o) k
-branch-retires lanes banks bank_time start r k history i (Next s) q e h = RetiresAt-plain lanes banks bank_time start r k history false true 1 i.rs1 i.rs2 [] q (omega arith) (omega arith)
-branch-retires lanes banks bank_time start r k history i (Exited code) q e h = absurd h
-branch-retires lanes banks bank_time start r k history i (Faulted fault s) q e h = absurd h
+-- a jump or a branch
+turning-retires : (lanes banks bank_time start r k : ℕ) (history : History) (s : Flat) (i : Instr) (done : Effect) → IsQuiet (in_order lanes banks bank_time) start r history → k ≡ r + 3 → GoesOn (affected s i.rd done) → RetiresAt (in_order lanes banks bank_time) start history (turning i done) k
+turning-retires lanes banks bank_time start r k history s i (effect.Value value pc) q e h = RetiresAt-plain lanes banks bank_time start r k history false true 1 (i.rs1 ∷ i.rs2 ∷ []) (i.rd ∷ []) q (omega arith) (omega arith)
+turning-retires lanes banks bank_time start r k history s i (effect.Next pc) q e h = RetiresAt-plain lanes banks bank_time start r k history false true 1 (i.rs1 ∷ i.rs2 ∷ []) (i.rd ∷ []) q (omega arith) (omega arith)
+turning-retires lanes banks bank_time start r k history s i (effect.Misaligned target) q e h = absurd h
 
-branch-stops : (lanes banks bank_time start r k : ℕ) (history : History) (i : Instr) (o : Outcome) → IsQuiet (in_order lanes banks bank_time) start r history → k ≡ r + 1 → Ends o → StopsAt (in_order lanes banks bank_time) start history (branching i o) Over k
-branch-stops lanes banks bank_time start r k history i (Next s) q e h = absurd h
-branch-stops lanes banks bank_time start r k history i (Exited code) q e h = StopsAt-serial lanes banks bank_time start r k history Faults q e
-branch-stops lanes banks bank_time start r k history i (Faulted fault s) q e h = StopsAt-serial lanes banks bank_time start r k history Faults q e
+turning-stops : (lanes banks bank_time start r k : ℕ) (history : History) (s : Flat) (i : Instr) (done : Effect) → IsQuiet (in_order lanes banks bank_time) start r history → k ≡ r + 1 → Ends (affected s i.rd done) → StopsAt (in_order lanes banks bank_time) start history (turning i done) Over k
+turning-stops lanes banks bank_time start r k history s i (effect.Value value pc) q e h = absurd h
+turning-stops lanes banks bank_time start r k history s i (effect.Next pc) q e h = absurd h
+turning-stops lanes banks bank_time start r k history s i (effect.Misaligned target) q e h = StopsAt-serial lanes banks bank_time start r k history Faults q e
+
+-- an instruction of a class does what its row does
+effect-as : (c : Class) (s : Flat) (i : Instr) → class_of i.op ≡ c → effect i s.x s.pc ≡ effect_as c i.op s.pc (register s i.rs1) (register s i.rs2) (reduced 64 i.imm)
+effect-as c s i is = ap (λ (d : Class). effect_as d i.op s.pc (register s i.rs1) (register s i.rs2) (reduced 64 i.imm)) is
+
+-- so it doesn't end the process, where its row never does
+ends-as-row : (c : Class) (s : Flat) (i : Instr) → class_of i.op ≡ c → Ends (affected s i.rd (effect i s.x s.pc)) → Ends (affected s i.rd (effect_as c i.op s.pc (register s i.rs1) (register s i.rs2) (reduced 64 i.imm)))
+ends-as-row c s i is h = subst (λ (done : Effect). Ends (affected s i.rd done)) (effect-as c s i is) h
 
 -- a load or a store, whose address fits and whose page grants it or not
 access-retires : (lanes banks bank_time start r k : ℕ) (history : History) (a b : ℕ) (writes : List ℕ) (element address : ℕ) (is_store fits granted : Bool) (x y z : Outcome) → IsQuiet (in_order lanes banks bank_time) start r history → k ≡ r + 4 + bank_time → (GoesOn x → ⊥) → (GoesOn y → ⊥) → GoesOn (if not fits then x else if not granted then y else z) → RetiresAt (in_order lanes banks bank_time) start history (one_access a b writes (access_of element address is_store (fits && granted))) k
@@ -69,20 +82,32 @@ true-false e = cc
 
 -- an instruction of a class
 class-retires : (lanes banks bank_time start r k : ℕ) (history : History) (c : Class) (s : Flat) (i : Instr) → IsQuiet (in_order lanes banks bank_time) start r history → is_service_class c ≡ false → GoesOn (performed_as c s i) → k ≡ r + 1 + class_time c bank_time → RetiresAt (in_order lanes banks bank_time) start history (footprint_as c s i) k
-class-retires lanes banks bank_time start r k history class.Arithmetic s i q other h e = RetiresAt-plain lanes banks bank_time start r k history false false 1 i.rs1 i.rs2 (i.rd ∷ []) q (omega arith) (omega arith)
-class-retires lanes banks bank_time start r k history class.Branch s i q other h e = branch-retires lanes banks bank_time start r k history i (branch s i) q (omega arith) h
+class-retires lanes banks bank_time start r k history class.Arithmetic s i q other h e = RetiresAt-plain lanes banks bank_time start r k history false false 1 (i.rs1 ∷ i.rs2 ∷ []) (i.rd ∷ []) q (omega arith) (omega arith)
+class-retires lanes banks bank_time start r k history class.Multiply s i q other h e = RetiresAt-plain lanes banks bank_time start r k history false false 3 (i.rs1 ∷ i.rs2 ∷ []) (i.rd ∷ []) q (omega arith) (omega arith)
+class-retires lanes banks bank_time start r k history class.Divide s i q other h e = RetiresAt-plain lanes banks bank_time start r k history false false 20 (i.rs1 ∷ i.rs2 ∷ []) (i.rd ∷ []) q (omega arith) (omega arith)
+class-retires lanes banks bank_time start r k history class.Jump s i q other h e = turning-retires lanes banks bank_time start r k history s i (effect i s.x s.pc) q (omega arith) h
+class-retires lanes banks bank_time start r k history class.Branch s i q other h e = turning-retires lanes banks bank_time start r k history s i (effect i s.x s.pc) q (omega arith) h
+class-retires lanes banks bank_time start r k history class.Load s i q other h e =
+    access-retires lanes banks bank_time start r k history i.rs1 i.rs2 (i.rd ∷ []) 0 (access_address i s.x) false _ (permits s.memory (access_address i s.x) Load) _ _ _ q (omega arith) none none h
 class-retires lanes banks bank_time start r k history class.Store s i q other h e =
-    access-retires lanes banks bank_time start r k history i.rs1 i.rs2 [] 0 (access_address s i) true _ (permits s.memory (access_address s i) Store) _ _ _ q (omega arith) none none h
+    access-retires lanes banks bank_time start r k history i.rs1 i.rs2 (i.rd ∷ []) 0 (access_address i s.x) true _ (permits s.memory (access_address i s.x) Store) _ _ _ q (omega arith) none none h
+class-retires lanes banks bank_time start r k history class.Fence s i q other h e = RetiresAt-plain lanes banks bank_time start r k history true false 1 [] [] q (omega arith) (omega arith)
 class-retires lanes banks bank_time start r k history class.Ecall s i q other h e = absurd (true-false other)
 class-retires lanes banks bank_time start r k history c s i q other h e = absurd h
 
-class-stops : (lanes banks bank_time start r k : ℕ) (history : History) (c : Class) (s : Flat) (i : Instr) → IsQuiet (in_order lanes banks bank_time) start r history → is_service_class c ≡ false → Ends (performed_as c s i) → k ≡ r + 1 + class_fault_time c → StopsAt (in_order lanes banks bank_time) start history (footprint_as c s i) Over k
-class-stops lanes banks bank_time start r k history class.Arithmetic s i q other h e = absurd h
-class-stops lanes banks bank_time start r k history class.Branch s i q other h e = branch-stops lanes banks bank_time start r k history i (branch s i) q (omega arith) h
-class-stops lanes banks bank_time start r k history class.Store s i q other h e =
-    access-stops lanes banks bank_time start r k history i.rs1 i.rs2 [] 0 (access_address s i) true _ (permits s.memory (access_address s i) Store) _ _ _ q (omega arith) none h
-class-stops lanes banks bank_time start r k history class.Ecall s i q other h e = absurd (true-false other)
-class-stops lanes banks bank_time start r k history c s i q other h e = StopsAt-serial lanes banks bank_time start r k history Faults q (omega arith)
+class-stops : (lanes banks bank_time start r k : ℕ) (history : History) (c : Class) (s : Flat) (i : Instr) → class_of i.op ≡ c → IsQuiet (in_order lanes banks bank_time) start r history → is_service_class c ≡ false → Ends (performed_as c s i) → k ≡ r + 1 + class_fault_time c → StopsAt (in_order lanes banks bank_time) start history (footprint_as c s i) Over k
+class-stops lanes banks bank_time start r k history class.Arithmetic s i is q other h e = absurd (ends-as-row class.Arithmetic s i is h)
+class-stops lanes banks bank_time start r k history class.Multiply s i is q other h e = absurd (ends-as-row class.Multiply s i is h)
+class-stops lanes banks bank_time start r k history class.Divide s i is q other h e = absurd (ends-as-row class.Divide s i is h)
+class-stops lanes banks bank_time start r k history class.Fence s i is q other h e = absurd (ends-as-row class.Fence s i is h)
+class-stops lanes banks bank_time start r k history class.Jump s i is q other h e = turning-stops lanes banks bank_time start r k history s i (effect i s.x s.pc) q (omega arith) h
+class-stops lanes banks bank_time start r k history class.Branch s i is q other h e = turning-stops lanes banks bank_time start r k history s i (effect i s.x s.pc) q (omega arith) h
+class-stops lanes banks bank_time start r k history class.Load s i is q other h e =
+    access-stops lanes banks bank_time start r k history i.rs1 i.rs2 (i.rd ∷ []) 0 (access_address i s.x) false _ (permits s.memory (access_address i s.x) Load) _ _ _ q (omega arith) none h
+class-stops lanes banks bank_time start r k history class.Store s i is q other h e =
+    access-stops lanes banks bank_time start r k history i.rs1 i.rs2 (i.rd ∷ []) 0 (access_address i s.x) true _ (permits s.memory (access_address i s.x) Store) _ _ _ q (omega arith) none h
+class-stops lanes banks bank_time start r k history class.Ecall s i is q other h e = absurd (true-false other)
+class-stops lanes banks bank_time start r k history c s i is q other h e = StopsAt-serial lanes banks bank_time start r k history Faults q (omega arith)
 
 class-serves : (lanes banks bank_time start r k : ℕ) (history : History) (c : Class) (s : Flat) (i : Instr) → IsQuiet (in_order lanes banks bank_time) start r history → is_service_class c ≡ true → k ≡ r + 1 → StopsAt (in_order lanes banks bank_time) start history (footprint_as c s i) Service k
 class-serves lanes banks bank_time start r k history class.Ecall s i q asks e = StopsAt-serial lanes banks bank_time start r k history Serves q e
@@ -99,7 +124,7 @@ upcoming-stops : (lanes banks bank_time start r k : ℕ) (history : History) (s 
 unfolding performed
 upcoming-stops lanes banks bank_time start r k history s Denied q other h e = StopsAt-serial lanes banks bank_time start r k history Faults q (omega arith)
 upcoming-stops lanes banks bank_time start r k history s (Illegal word) q other h e = StopsAt-serial lanes banks bank_time start r k history Faults q (omega arith)
-upcoming-stops lanes banks bank_time start r k history s (Instruction i) q other h e = class-stops lanes banks bank_time start r k history (class_of i.op) s i q other h e
+upcoming-stops lanes banks bank_time start r k history s (Instruction i) q other h e = class-stops lanes banks bank_time start r k history (class_of i.op) s i refl q other h e
 
 upcoming-serves : (lanes banks bank_time start r k : ℕ) (history : History) (s : Flat) (u : Upcoming) → IsQuiet (in_order lanes banks bank_time) start r history → is_service u ≡ true → k ≡ r + 1 → StopsAt (in_order lanes banks bank_time) start history (footprint_of s u) Service k
 upcoming-serves lanes banks bank_time start r k history s Denied q asks e = absurd (true-false (sym asks))

@@ -1,7 +1,7 @@
 -- Histories in which all is done by the last retire, as those with one instruction in flight are.
 use Rattle.std.proofs.Common.{◌≡◌, ℕ, ◌+◌, ◌≤◌, max, Bool, true, false, List, [], ◌∷◌, ◌++◌, refl, sym, ap, ◌∙◌, arith}
 use Rattle.std.proofs.Math.Nat.{max-le}
-use Rattle.std.specs.Prelude.{Option, Some, None, ◌||◌, if◌then◌else◌}
+use Rattle.std.specs.Prelude.{Option, Some, None, ◌||◌, map, if◌then◌else◌}
 use Rattle.std.specs.Option.{option_map_or}
 use Rattle.vx_times.specs.Cycles.{fetch_cycle, issue_cycle, complete_cycle, retire_cycle, batch_times, access_times, batch_stop_cycle}
 use Rattle.vx_times.specs.Episode.{event, pause_of}
@@ -74,11 +74,8 @@ IsQuiet-start lanes banks bank_time start =
     }
 
 -- of numbers
-issue-of : (f l c s a b r : ℕ) → f ≤ r + 1 → l ≤ r → c ≤ r + 1 → s ≤ r + 1 → a ≤ r → b ≤ r → r + 1 ≤ max (l + 1) c → max f (max (l + 1) (max c (max s (max a (max b 0))))) ≡ r + 1
-issue-of f l c s a b r pf pl pc ps pa pb floor = omega arith
-
-serial-of : (f l c t r : ℕ) → f ≤ r + 1 → l ≤ r → c ≤ r + 1 → t ≡ r → max f (max (l + 1) (max c (max (t + 1) 0))) ≡ r + 1
-serial-of f l c t r pf pl pc pt = omega arith
+issue-of : (f l c s a r : ℕ) → f ≤ r + 1 → l ≤ r → c ≤ r + 1 → s ≤ r + 1 → a ≤ r → r + 1 ≤ max (l + 1) c → max f (max (l + 1) (max c (max s a))) ≡ r + 1
+issue-of f l c s a r pf pl pc ps pa floor = omega arith
 
 if-le : (b : Bool) (x y k : ℕ) → x ≤ k → y ≤ k → (if b then x else y) ≤ k
 if-le true x y k p q = p
@@ -100,12 +97,17 @@ free-more true served bank_time k rest p q = p
 free-more false served bank_time k rest p q = q
 
 -- an instruction without an access
-abbrev pub plain : (is_serial turns : Bool) (latency a b : ℕ) (writes : List ℕ) → Footprint
-plain is_serial turns latency a b writes = record { latency = latency; turns = turns; is_serial = is_serial; reads = a ∷ b ∷ []; writes = writes; batches = []; stop = None }
+abbrev pub plain : (is_serial turns : Bool) (latency : ℕ) (reads writes : List ℕ) → Footprint
+plain is_serial turns latency reads writes = record { latency = latency; turns = turns; is_serial = is_serial; reads = reads; writes = writes; batches = []; stop = None }
 
-issue-at : (lanes banks bank_time start r : ℕ) (history : History) (f : Footprint) (a b : ℕ) → f.reads ≡ a ∷ b ∷ [] → IsQuiet (in_order lanes banks bank_time) start r history → issue_cycle (in_order lanes banks bank_time) start history f ≡ r + 1
-issue-at lanes banks bank_time start r history f a b reads q =
-    rw reads (issue-of _ _ _ _ _ _ r q.fetch q.issue q.before (waits-le f.is_serial (last_retire start history) r q.last) (q.ready a) (q.ready b) q.floor)
+-- all registers that an instruction reads
+ready-all : (start r : ℕ) (history : History) (reads : List ℕ) → ((register : ℕ) → register_ready start history register ≤ r) → greatest (map (register_ready start history) reads) ≤ r
+ready-all start r history [] h = omega arith
+ready-all start r history (register ∷ reads) h = max-le (h register) (ready-all start r history reads h)
+
+issue-at : (lanes banks bank_time start r : ℕ) (history : History) (f : Footprint) → IsQuiet (in_order lanes banks bank_time) start r history → issue_cycle (in_order lanes banks bank_time) start history f ≡ r + 1
+issue-at lanes banks bank_time start r history f q =
+    issue-of _ _ _ _ _ r q.fetch q.issue q.before (waits-le f.is_serial (last_retire start history) r q.last) (ready-all start r history f.reads q.ready) q.floor
 
 -- what a history keeps where an instruction without an access retires
 plain-more : (lanes banks bank_time start r issued completed retired k : ℕ) (history : History) (f : Footprint) → IsQuiet (in_order lanes banks bank_time) start r history → issued ≡ r + 1 → completed ≤ k → retired ≡ k → r + 3 ≤ k → IsQuiet (in_order lanes banks bank_time) start k (record { footprint = f; issued = issued; completed = completed; retired = retired; batches = [] } ∷ history)
@@ -133,14 +135,14 @@ plain-completed i l c r p o q = omega arith
 plain-retired : (l n c t r k : ℕ) → l ≡ r → c ≡ r + 1 + n → k ≡ r + 2 + n → t ≡ max (l + 1) (max (c + 1) 0) → t ≡ k
 plain-retired l n c t r k p q e h = omega arith
 
-pub RetiresAt-plain : (lanes banks bank_time start r k : ℕ) (history : History) (is_serial turns : Bool) (latency a b : ℕ) (writes : List ℕ) → IsQuiet (in_order lanes banks bank_time) start r history → 1 ≤ latency → k ≡ r + 2 + latency → RetiresAt (in_order lanes banks bank_time) start history (plain is_serial turns latency a b writes) k
-RetiresAt-plain lanes banks bank_time start r k history is_serial turns latency a b writes q some e =
+pub RetiresAt-plain : (lanes banks bank_time start r k : ℕ) (history : History) (is_serial turns : Bool) (latency : ℕ) (reads writes : List ℕ) → IsQuiet (in_order lanes banks bank_time) start r history → 1 ≤ latency → k ≡ r + 2 + latency → RetiresAt (in_order lanes banks bank_time) start history (plain is_serial turns latency reads writes) k
+RetiresAt-plain lanes banks bank_time start r k history is_serial turns latency reads writes q some e =
     let machine = in_order lanes banks bank_time in
-    let f = plain is_serial turns latency a b writes in
+    let f = plain is_serial turns latency reads writes in
     let issued = issue_cycle machine start history f in
     let completed = complete_cycle issued f [] in
     let retired = retire_cycle start history completed in
-    let i : issued ≡ r + 1 = issue-at lanes banks bank_time start r history f a b refl q in
+    let i : issued ≡ r + 1 = issue-at lanes banks bank_time start r history f q in
     let c : completed ≡ r + 1 + latency = plain-completed issued latency completed r i some refl in
     let t : retired ≡ k = plain-retired (last_retire start history) latency completed retired r k q.last c e refl in
     let before : completed ≤ k = omega arith in
@@ -157,7 +159,7 @@ pub StopsAt-serial : (lanes banks bank_time start r k : ℕ) (history : History)
 StopsAt-serial lanes banks bank_time start r k history stop q e =
     let machine = in_order lanes banks bank_time in
     let issued = issue_cycle machine start history (stopping stop) in
-    let i : issued ≡ r + 1 = serial-of _ _ _ _ r q.fetch q.issue q.before q.last in
+    let i : issued ≡ r + 1 = issue-at lanes banks bank_time start r history (stopping stop) q in
     let same : issued ≡ k = i ∙ sym e in
     record {
       batches = [];
@@ -226,7 +228,7 @@ RetiresAt-access lanes banks bank_time start r k history a b writes element addr
     let times = access_times machine batch.started [] (accesses_of all) access in
     let completed = complete_cycle issued f (batch ∷ []) in
     let retired = retire_cycle start history completed in
-    let i : issued ≡ r + 1 = issue-at lanes banks bank_time start r history f a b refl q in
+    let i : issued ≡ r + 1 = issue-at lanes banks bank_time start r history f q in
     let w = waits-le (is_store || false) (last_retire start history) r q.last in
     let s : batch.started ≡ r + 2 = started-of issued (cycle_after (last_look_up all)) (cycle_after (last_but_one_commit all)) _ r batch.started i q.look_up q.commit_before w refl in
     let u : times.queued ≡ r + 2 = queued-of batch.started r times.queued s refl in
@@ -256,7 +258,7 @@ StopsAt-access lanes banks bank_time start r k history a b writes element addres
     let all = batches_of history in
     let issued = issue_cycle machine start history f in
     let batch = batch_times machine start history issued [] (access ∷ []) in
-    let i : issued ≡ r + 1 = issue-at lanes banks bank_time start r history f a b refl q in
+    let i : issued ≡ r + 1 = issue-at lanes banks bank_time start r history f q in
     let w = waits-le (is_store || false) (last_retire start history) r q.last in
     let s : batch.started ≡ r + 2 = started-of issued (cycle_after (last_look_up all)) (cycle_after (last_but_one_commit all)) _ r batch.started i q.look_up q.commit_before w refl in
     let l : batch_stop_cycle start history element (batch ∷ []) ≡ k = stop-of (last_retire start history) batch.started r k q.last s e in

@@ -6,14 +6,20 @@ use Rattle.vx_flat.specs.declared.upcoming.Upcoming.TheVariants.{Denied, Illegal
 use Rattle.vx_rows.specs.Table.{class_of}
 use Rattle.vx_rows.specs.declared.row.Class.{Class}
 use Rattle.vx_rows.specs.declared.row.Class.TheVariants as class
+use Rattle.vx_times.specs.Footprint.{multiply_latency, divide_latency}
 
--- how long an instruction of a class takes from its issue to its retire: a store until its bank is done
+-- how long an instruction of a class takes from its issue to its retire: one cycle behind its completion, which of a load
+-- and of a store is once its bank is done
 abbrev pub class_time : Class → (bank_time : ℕ) → ℕ
+class_time class.Multiply bank_time = multiply_latency + 1
+class_time class.Divide bank_time = divide_latency + 1
+class_time class.Load bank_time = bank_time + 3
 class_time class.Store bank_time = bank_time + 3
 class_time c bank_time = 2
 
--- how long a fault of a class takes from the issue: a store until its page was looked up
+-- how long a fault of a class takes from the issue: of a load and of a store until its page was looked up
 abbrev pub class_fault_time : Class → ℕ
+class_fault_time class.Load = 1
 class_fault_time class.Store = 1
 class_fault_time c = 0
 

@@ -15,28 +15,37 @@ pub const TRAP: u64 = 20;
 /// Cycles of a service, beside those of the words that it moves.
 pub const SERVICE: u64 = 50;
 
-/// How many cycles an instruction takes from its issue to its retire: it completes one cycle after its issue, a store once
-/// its bank is done.
+/// Cycles from the issue of a multiplication to its completion.
+const MULTIPLY: u64 = 3;
+
+/// Cycles from the issue of a division or a remainder to its completion.
+const DIVIDE: u64 = 20;
+
+/// How many cycles an instruction takes from its issue to its retire, which is one cycle after its completion: a load and a
+/// store complete once their bank is done, an instruction that has no time of its own one cycle after its issue.
 pub fn retire_time(next: Upcoming, bank_time: u64) -> u64
     requires bank_time { bank_time < 2 ^ 32 }
     ensures { result ≡ retire_time next bank_time }
 {
     match next {
         Upcoming::Instruction(i) => match i.op.class() {
-            Class::Store => bank_time + 3,
+            Class::Multiply => MULTIPLY + 1,
+            Class::Divide => DIVIDE + 1,
+            Class::Load | Class::Store => bank_time + 3,
             _ => 2,
         },
         Upcoming::Denied | Upcoming::Illegal(_) => 2,
     }
 }
 
-/// How many cycles after its issue an instruction that faults ends its episode: none, a store once its page was looked up.
+/// How many cycles after its issue an instruction that faults ends its episode: none, a load or a store once its page was
+/// looked up.
 pub fn fault_time(next: Upcoming) -> u64
     ensures { result ≡ fault_time next }
 {
     match next {
         Upcoming::Instruction(i) => match i.op.class() {
-            Class::Store => 1,
+            Class::Load | Class::Store => 1,
             _ => 0,
         },
         Upcoming::Denied | Upcoming::Illegal(_) => 0,

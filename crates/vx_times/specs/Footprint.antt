@@ -1,15 +1,18 @@
 -- What timing sees of an instruction: the only place where timing meets the instruction set. This project's own.
 use Rattle.std.specs.Prelude.{ℕ, Bool, true, false, ◌==◌, ◌&&◌, ◌%◌, List, [], ◌∷◌, Option, Some, None}
-use Rattle.vx_base.specs.declared.machine.Want.TheVariants.{Store}
+use Rattle.vx_base.specs.declared.machine.Want.{Want}
+use Rattle.vx_base.specs.declared.machine.Want.TheVariants.{Load, Store}
 use Rattle.vx_decode.specs.declared.instr.Instr.{Instr}
 use Rattle.vx_rows.specs.Table.{class_of}
 use Rattle.vx_rows.specs.declared.row.Class.{Class}
 use Rattle.vx_rows.specs.declared.row.Class.TheVariants as class
+use Rattle.vx_flat.specs.Access.{access_address, access_width}
 use Rattle.vx_flat.specs.Memory.{permits}
-use Rattle.vx_flat.specs.Scalar.{access_width}
+use Rattle.vx_flat.specs.Scalar.{effect}
 use Rattle.vx_flat.specs.State.{Flat}
-use Rattle.vx_flat.specs.Step.{Outcome, upcoming, branch, access_address}
-use Rattle.vx_flat.specs.Step.Outcome.{Next, Exited, Faulted}
+use Rattle.vx_flat.specs.Step.{upcoming}
+use Rattle.vx_flat.specs.declared.effect.Effect.{Effect}
+use Rattle.vx_flat.specs.declared.effect.Effect.TheVariants.{Value, Next, Misaligned}
 use Rattle.vx_flat.specs.declared.upcoming.Upcoming.{Upcoming}
 use Rattle.vx_flat.specs.declared.upcoming.Upcoming.TheVariants.{Denied, Illegal, Instruction}
 
@@ -43,32 +46,49 @@ pub record Footprint : Type 0 where
 abbrev pub stopping : SerialStop → Footprint
 stopping stop = record { latency = 1; turns = false; is_serial = true; reads = []; writes = []; batches = []; stop = Some stop }
 
--- an instruction that computes; an operand that its shape lacks is x0, which no instruction writes
-abbrev pub computing : Instr → Footprint
-computing i = record { latency = 1; turns = false; is_serial = false; reads = i.rs1 ∷ i.rs2 ∷ []; writes = i.rd ∷ []; batches = []; stop = None }
+-- an instruction that touches no memory; an operand that its shape lacks is x0, which no instruction writes
+abbrev pub running : Instr → (latency : ℕ) → (turns : Bool) → Footprint
+running i latency turns = record { latency = latency; turns = turns; is_serial = false; reads = i.rs1 ∷ i.rs2 ∷ []; writes = i.rd ∷ []; batches = []; stop = None }
 
--- a branch: it stops where its target faults
-abbrev pub branching : Instr → Outcome → Footprint
-branching i (Next s) = record { latency = 1; turns = true; is_serial = false; reads = i.rs1 ∷ i.rs2 ∷ []; writes = []; batches = []; stop = None }
-branching i (Exited code) = stopping Faults
-branching i (Faulted fault s) = stopping Faults
+-- a jump or a branch, by what it does: it stops where its target is misaligned
+abbrev pub turning : Instr → Effect → Footprint
+turning i (Value value pc) = running i 1 true
+turning i (Next pc) = running i 1 true
+turning i (Misaligned target) = stopping Faults
+
+-- a fence, which waits for what is before it and reads no register
+abbrev pub fencing : Footprint
+fencing = record { latency = 1; turns = false; is_serial = true; reads = []; writes = []; batches = []; stop = None }
 
 -- a scalar access is a batch of one
-abbrev pub one_access : Flat → Instr → Access
-one_access s i =
-    let address = access_address s i in
-    record { element = 0; address = address; is_store = true; is_good = (address % access_width i.op == 0) && permits s.memory address Store }
+abbrev pub one_access : Flat → Instr → Want → (is_store : Bool) → Access
+one_access s i want is_store =
+    let address = access_address i s.x in
+    record { element = 0; address = address; is_store = is_store; is_good = (address % access_width i.op == 0) && permits s.memory address want }
 
-abbrev pub storing : Flat → Instr → Footprint
-storing s i = record { latency = 1; turns = false; is_serial = false; reads = i.rs1 ∷ i.rs2 ∷ []; writes = []; batches = (one_access s i ∷ []) ∷ []; stop = None }
+abbrev pub transferring : Instr → Access → Footprint
+transferring i access = record { latency = 1; turns = false; is_serial = false; reads = i.rs1 ∷ i.rs2 ∷ []; writes = i.rd ∷ []; batches = (access ∷ []) ∷ []; stop = None }
+
+-- how many cycles after its issue a multiplication completes, and a division or a remainder
+abbrev pub multiply_latency : ℕ
+multiply_latency = 3
+
+abbrev pub divide_latency : ℕ
+divide_latency = 20
 
 abbrev pub footprint_as : Class → Flat → Instr → Footprint
-footprint_as class.Arithmetic s i = computing i
-footprint_as class.Branch s i = branching i (branch s i)
-footprint_as class.Store s i = storing s i
+footprint_as class.Arithmetic s i = running i 1 false
+footprint_as class.Multiply s i = running i multiply_latency false
+footprint_as class.Divide s i = running i divide_latency false
+footprint_as class.Jump s i = turning i (effect i s.x s.pc)
+footprint_as class.Branch s i = turning i (effect i s.x s.pc)
+footprint_as class.Load s i = transferring i (one_access s i Load false)
+footprint_as class.Store s i = transferring i (one_access s i Store true)
+footprint_as class.Fence s i = fencing
 footprint_as class.Ecall s i = stopping Serves
--- no instruction of another class is executed yet
-footprint_as other s i = stopping Faults
+footprint_as class.Ebreak s i = stopping Faults
+-- no such instruction comes next
+footprint_as class.Csr s i = stopping Faults
 
 -- of what comes next
 abbrev pub footprint_of : Flat → Upcoming → Footprint

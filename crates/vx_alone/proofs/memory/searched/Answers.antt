@@ -4,7 +4,7 @@ use Rattle.std.proofs.lemmas.List.Sorted.{answers_always}
 use Rattle.std.specs.Result.{result_ok}
 use Rattle.vx_base.specs.declared.perm.PageEntry.{PageEntry}
 use Rattle.vx_alone.proofs.Search.{searched}
-use Rattle.vx_alone.proofs.memory.place_of.Goals as goal
+use Rattle.vx_alone.proofs.memory.searched.Goals as goal
 
 pub returns : goal.returns
 returns c =
