@@ -105,7 +105,12 @@ fn any_name_is_read_that_is_not_empty(rt: HostRuntime) -> Result<(), Fail> {
 #[test]
 fn any_file_is_read(rt: HostRuntime) -> Result<(), Fail> {
     let alloc = rt.alloc();
-    for (line, name) in [("dis f", "f"), ("dis raw:f", "raw:f"), ("dis f-x", "f-x"), ("dis dis", "dis")] {
+    for (line, name) in [
+        ("dis f", "f"),
+        ("dis raw:f", "raw:f"),
+        ("dis f-x", "f-x"),
+        ("dis dis", "dis"),
+    ] {
         asks(&rt, alloc, line, Asked::Dis(name))?;
     }
     Ok(())
