@@ -1,9 +1,9 @@
 -- A command by its first word, and by what stands behind that.
-use Rattle.std.proofs.Common.{◌≡◌, ◌≢◌, ℕ, ◌+◌, ◌<◌, ◌≤◌, Bool, true, false, List, [], ◌∷◌, ◌++◌, length, take, refl, sym, ap, subst, ◌∙◌, add-one, arith}
+use Rattle.std.proofs.Common.{◌≡◌, ◌≢◌, ℕ, ◌+◌, true, false, List, [], ◌∷◌, ◌++◌, take, refl, sym, ap, subst, ◌∙◌, add-one, arith}
 use Rattle.std.specs.Prelude.{codes}
 use Rattle.std.specs.Str.{bytes_eq}
 use Rattle.std.proofs.lemmas.Bool.{false≢true}
-use Rattle.vx_words.specs.Words.{Given, Command, AskFor, AreOutside, AreBegun, IsFirstBad}
+use Rattle.vx_words.specs.Words.{Command, AskFor, AreOutside, AreBegun, IsFirstBad}
 use Rattle.vx_words.specs.Words.Command.{Run, Dis}
 use Rattle.vx_read.specs.Behind.{AreOptionsAndImage}
 use Rattle.vx_read.specs.Files.{IsOneFile, AreOneFile, AreBad}

@@ -1,6 +1,6 @@
 -- One file: what is read, and which word is the first bad one.
-use Rattle.std.proofs.Common.{◌≡◌, ◌≢◌, ℕ, ◌+◌, ◌<◌, ◌≤◌, List, [], ◌∷◌, ◌++◌, length, take, Option, Some, None, refl, sym, ap, subst, ◌∙◌, arith}
-use Rattle.std.specs.Prelude.{codes, slice_get}
+use Rattle.std.proofs.Common.{◌≡◌, ℕ, ◌<◌, List, [], ◌∷◌, length, refl, subst, arith}
+use Rattle.std.specs.Prelude.{codes}
 use Rattle.vx_words.specs.Words.{IsFile}
 use Rattle.vx_read.specs.Files.{IsOneFile, AreOneFile, AreBad}
 

@@ -1,21 +1,20 @@
 -- From the words behind `run` to all of them.
-use Rattle.std.proofs.Common.{◌≡◌, ◌≢◌, ℕ, true, false, ◌+◌, ◌<◌, ◌≤◌, List, [], ◌∷◌, ◌++◌, take, drop, Option, Some, None, IfSome, refl, sym, ap, subst, ◌∙◌, ⊎_elim, append_assoc, add-one, arith}
+use Rattle.std.proofs.Common.{◌≡◌, ℕ, true, false, ◌+◌, ◌<◌, ◌≤◌, List, [], ◌∷◌, ◌++◌, take, drop, Option, Some, None, IfSome, sym, ap, subst, ◌∙◌, ⊎_elim, append_assoc, arith}
 use Rattle.std.specs.Prelude.{codes}
 use Rattle.std.proofs.lemmas.List.{take-take, take-append-drop}
 use Rattle.std.proofs.lemmas.Bool.{cases_lt}
-use Rattle.vx_words.specs.Words.{OptionName, Given, Command, is_same, given_number, IsInRange, AskFor, AreOutside, AreBegun, IsFirstBad}
+use Rattle.vx_words.specs.Words.{OptionName, Given, is_same, given_number, IsInRange, AskFor, AreBegun, IsFirstBad}
 use Rattle.vx_words.specs.Words.OptionName.{Window, Lanes, Budget}
 use Rattle.vx_words.specs.Words.Command.{Run}
 use Rattle.vx_read.specs.declared.numbers.Numbers.{Numbers}
 use Rattle.vx_read.specs.declared.run_words.RunWords.{RunWords}
 use Rattle.vx_read.specs.Numbers.{nothing, IsRunOf}
-use Rattle.vx_read.specs.Behind.{AreOptionsAndImage, AreNew, AreBegunBehind, AreBadBehind, AreReadBehind}
+use Rattle.vx_read.specs.Behind.{AreOptionsAndImage, AreNew, AreBadBehind, AreReadBehind}
 use Rattle.vx_read.specs.Files.{AreBad}
 use Rattle.vx_read.specs.Read.{AreRead}
 use Rattle.vx_read.proofs.Spellings.{same_option}
-use Rattle.vx_read.proofs.Heads.{asks, asked, image_head, spelled_head}
+use Rattle.vx_read.proofs.Heads.{asks, image_head, spelled_head}
 use Rattle.vx_read.proofs.Onward.{true_or_false}
-use Rattle.vx_read.proofs.First.{begun_nowhere}
 
 -- a number that is given lies in its range
 given_in_range : (words : List (List ℕ)) (givens : List Given) (name : List ℕ) (option : OptionName) (number : ℕ) → AreOptionsAndImage words givens name → given_number option givens ≡ Some number → IsInRange (record { option = option; number = number })
