@@ -23,8 +23,12 @@ pub fn loaded(op: Op, n: u64) -> u64
 {
     match op {
         Op::Scalar(ScalarOp::Lb) => i64::from(((n % 0x100) as u8).cast_signed()).cast_unsigned(),
-        Op::Scalar(ScalarOp::Lh) => i64::from(((n % 0x1_0000) as u16).cast_signed()).cast_unsigned(),
-        Op::Scalar(ScalarOp::Lw) => i64::from(((n % 0x1_0000_0000) as u32).cast_signed()).cast_unsigned(),
+        Op::Scalar(ScalarOp::Lh) => i64::from(
+            ((n % 0x1_0000) as u16).cast_signed(),
+        ).cast_unsigned(),
+        Op::Scalar(ScalarOp::Lw) => i64::from(
+            ((n % 0x1_0000_0000) as u32).cast_signed(),
+        ).cast_unsigned(),
         _ => n,
     }
 }
