@@ -1,0 +1,11 @@
+pub mod Allowed
+pub mod Assembled
+pub mod Entries
+pub mod Filling
+pub mod Laying
+pub mod Made
+pub mod Next
+pub mod PageFaults
+pub mod PagesAt
+pub mod Places
+pub mod Raw
