@@ -1,5 +1,5 @@
 -- How an image is built of segments, step by step. This project's own.
-use Rattle.std.specs.Prelude.{◌≡◌, ℕ, zero, suc, ◌+◌, ◌*◌, ◌<◌, ◌≤◌, Bool, true, false, ◌&&◌, nat_lt, nat_le, List, [], ◌∷◌, ◌++◌, length, slice_index, Option, Some, None, if◌then◌else◌}
+use Rattle.std.specs.Prelude.{◌≡◌, ℕ, zero, suc, ◌+◌, ◌*◌, ◌<◌, ◌≤◌, Bool, true, false, ◌&&◌, ◌==◌, nat_lt, nat_le, List, [], ◌∷◌, ◌++◌, length, slice_index, Option, Some, None, if◌then◌else◌}
 use Rattle.std.specs.List.{list_any, flat_map}
 use Rattle.std.specs.Option.{option_to_list}
 use Rattle.vx_base.specs.declared.perm.PageEntry.{PageEntry}
@@ -60,3 +60,13 @@ stack_entries (suc count) = stack_entries count ++ entry_of_stack (stack_page + 
 -- the bytes of pages one after another
 unfoldable pub bytes_of_entries : List Segment → List PageEntry → List ℕ
 bytes_of_entries segments entries = flat_map (λ (entry : PageEntry). bytes_from segments (4096 * entry.page) 4096) entries
+
+-- a number is the last one
+abbrev pub is_last : Option ℕ → ℕ → Bool
+is_last None n = false
+is_last (Some m) n = m == n
+
+-- how many numbers of a list differ from the one before, the first from a last one
+abbrev pub change_count : Option ℕ → List ℕ → ℕ
+change_count last [] = 0
+change_count last (n ∷ ns) = (if is_last last n then 0 else 1) + change_count (Some n) ns

@@ -5,6 +5,8 @@ use Rattle.std.specs.Option.{option_or, option_map_or}
 use Rattle.vx_base.specs.Page.{byte_of_words}
 use Rattle.vx_base.specs.Permissions.{grants}
 use Rattle.vx_base.specs.declared.machine.Want.TheVariants.{Fetch}
+use Rattle.vx_base.specs.declared.perm.PageEntry.{PageEntry}
+use Rattle.vx_base.specs.declared.perm.Perm.{Perm}
 use Rattle.vx_elf.specs.declared.segment.Segment.{Segment}
 use Rattle.vx_elf.specs.declared.segments.Segments.{Segments}
 use Rattle.vx_image.specs.Pages.{MappedPage, Memory, page_numbered, Image}
@@ -82,3 +84,10 @@ MakesRaw bytes (Err fault) = raw_fault bytes ≡ Some fault
 -- the words of a page hold these bytes
 abbrev pub HoldBytes : List ℕ → List ℕ → Type 0
 HoldBytes words bytes = (j : ℕ) → j < 4096 → byte_of_words words j ≡ slice_index bytes j
+
+-- the permissions of a page as a set of them, and its entry in a list of pages
+abbrev pub perm_of_page : MappedPage → Perm
+perm_of_page page = record { bits = page.permissions }
+
+abbrev pub entry_of_page : MappedPage → PageEntry
+entry_of_page page = record { page = page.number; perm = record { bits = page.permissions } }

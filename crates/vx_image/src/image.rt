@@ -1,16 +1,27 @@
-ghost use Rattle.std.specs.Prelude.{◌≡◌, ◌%◌, None, IfOk};
+ghost use Rattle.std.specs.Prelude.{length, ◌≡◌, ◌%◌, None, IfOk, IsSome, IfSome, map, option_map};
 ghost use Rattle.vx_base.specs.Pages.{IsPageList};
 ghost use Rattle.vx_elf.specs.Segments.{IsSegmentList};
 ghost use Rattle.vx_image.specs.Building.{entries_below};
-ghost use Rattle.vx_image.specs.Images.{Makes, MakesRaw, raw_fault, raw_segment, raw_image};
+ghost use Rattle.vx_image.specs.Images.{Makes, MakesRaw, raw_fault, raw_segment, raw_image, perm_of_page, entry_of_page, HoldBytes};
 ghost use Rattle.vx_image.specs.Mapping.{all_pages};
+ghost use Rattle.vx_image.specs.Pages.{MappedPage, page_numbered};
+ghost use Rattle.vx_image.specs.Tables.{table_frames};
 
 use crate::build::{PAGE_LEN, PAGE_LIMIT, STACK_PAGES, page_bytes, page_entries, pages_fault};
 use crate::fault::ImageFault;
+use crate::frames::region_count;
+use crate::search::place_of;
+use byteorder::{ByteOrder, LittleEndian};
 use std::alloc::{AllocError, Global};
 use std::marker::Model;
-use vx_base::{Bytes, PageEntry, Perm};
+use vx_base::{Bytes, Page, PageEntry, PageList, Perm};
 use vx_elf::{Segment, Segments};
+
+/// How many pages a region of 1 GiB has.
+const GIB_PAGES: u64 = 1 << 18;
+
+/// How many pages a region of 2 MiB has.
+const MIB2_PAGES: u64 = 1 << 9;
 
 /// Where a process begins, and its memory then, by page: the entries of the mapped pages in rising order, the stack's
 /// 16 pages of zeros from 0x3fffff0000 on among them, and the bytes of all of them. The entry is a multiple of 4.
@@ -30,6 +41,59 @@ impl Model for Image {
     ghost view = { λ i. record { entry = i.entry; pages = pages_of i.entries.items i.bytes.items } };
 
     ghost invariant = { λ i. IsKept i.entry i.entries.items i.bytes.items };
+}
+
+impl Image {
+    /// The address of the first instruction, a multiple of 4.
+    pub fn entry(&self) -> u64
+        ensures value { result ≡ self.now.entry }
+        ensures aligned { result % 4 ≡ 0 }
+    {
+        self.entry
+    }
+
+    /// The permissions of the page of this number; `None` exactly where it isn't mapped.
+    pub fn perm(&self, page: u64) -> Option<Perm>
+        ensures { result ≡ option_map perm_of_page (page_numbered page self.now.pages) }
+    {
+        let place = place_of(&self.entries, page)?;
+        Some(self.entries[place].perm)
+    }
+
+    /// Gives the bytes of the page of this number, which is mapped.
+    pub fn load(&self, page: u64, into: &mut Page)
+        requires { IsSome (page_numbered page self.now.pages) }
+        ensures { IfSome (page_numbered page self.now.pages) (λ (page : MappedPage). HoldBytes into.new.words page.bytes) }
+    {
+        let Some(place) = place_of(&self.entries, page) else {
+            unreachable!()
+        };
+        let start = PAGE_LEN * place;
+        read_page(&self.bytes[start..start + PAGE_LEN], into);
+    }
+
+    /// How many frames of 4,096 bytes its page tables take (RISC-V Privileged 1.12, section 4.4): the root, and a table
+    /// for each region of 1 GiB and of 2 MiB that has a page.
+    pub fn table_frames(&self) -> u32
+        ensures { result ≡ table_frames self.now.pages }
+    {
+        1 + region_count(&self.entries, GIB_PAGES) + region_count(&self.entries, MIB2_PAGES)
+    }
+
+    /// The mapped pages, with their permissions.
+    pub fn pages(&self, alloc: Global) -> Result<PageList, AllocError>
+        ensures { IfOk result (λ list. list ≡ map entry_of_page self.now.pages) }
+    {
+        Ok(PageList::of(Vec::from_slice(alloc, &self.entries)?))
+    }
+}
+
+/// Gives a page these bytes.
+fn read_page(bytes: &[u8], into: &mut Page)
+    requires { length bytes.now ≡ 4096 }
+    ensures { HoldBytes into.new.words bytes.now }
+{
+    LittleEndian::read_u64_into(bytes, &mut into.words);
 }
 
 /// The address at which raw bytes stand.

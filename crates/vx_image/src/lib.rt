@@ -7,6 +7,7 @@
 
 mod build;
 mod fault;
+mod frames;
 mod image;
 mod search;
 

@@ -1,6 +1,5 @@
 -- The bytes are those of the entries.
-use Rattle.std.proofs.Common.{◌≡◌, ap, ◌∙◌, List}
-use Rattle.vx_base.specs.declared.perm.PageEntry.{PageEntry}
+use Rattle.std.proofs.Common.{ap, ◌∙◌}
 use Rattle.vx_image.specs.Building.{bytes_of_entries}
 use Rattle.vx_image.proofs.Assembled.{kept, the_pages}
 use Rattle.vx_image.proofs.image.assembled.Goals as goal

@@ -1,6 +1,5 @@
 -- The entries are those of the segments' image, and the first fault is its fault.
-use Rattle.std.proofs.Common.{◌≡◌, ap, ◌∙◌, List}
-use Rattle.std.proofs.lemmas.Result.{err_from_is_err_and}
+use Rattle.std.proofs.Common.{ap, ◌∙◌, List}
 use Rattle.vx_elf.specs.declared.segment.Segment.{Segment}
 use Rattle.vx_image.specs.Building.{entries_below, bytes_of_entries}
 use Rattle.vx_image.specs.Kept.{IsRising}

@@ -1,7 +1,6 @@
 -- The segments are the one of the bytes.
 use Rattle.std.proofs.Common.{◌≡◌, [], ◌∷◌, ◌++◌, ap, ◌∙◌, List}
 use Rattle.std.proofs.lemmas.Result.{IfOk-weaker}
-use Rattle.vx_elf.specs.Segments.{IsSegmentList}
 use Rattle.vx_elf.specs.declared.segment.Segment.{Segment}
 use Rattle.vx_image.specs.Building.{entries_below}
 use Rattle.vx_image.specs.Images.{raw_segment, raw_image}
