@@ -22,7 +22,7 @@ both true b h = (refl, h)
 both false b h = cc
 
 -- a number that fails the test of being 0 is above it
-not_zero : (n : ℕ) → not (eqb n 0) ≡ true → 0 < n
+pub not_zero : (n : ℕ) → not (eqb n 0) ≡ true → 0 < n
 not_zero zero h = cc
 not_zero (suc n) h = omega arith
 

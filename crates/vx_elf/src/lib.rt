@@ -6,12 +6,17 @@
 #![tactic(auto)]
 
 mod fault;
+mod field;
 mod header;
+mod program;
 mod read;
 mod segment;
 mod segments;
+mod write;
 
 pub use fault::ElfFault;
+pub use program::Program;
 pub use read::read_elf;
 pub use segment::Segment;
 pub use segments::{SegmentList, Segments};
+pub use write::write_elf;

@@ -1,9 +1,9 @@
 -- Each header goes on with those before it, and the first fault is the file's.
-use Rattle.std.proofs.Common.{◌≡◌, ℕ, ◌++◌, List, None, sym, ap, ◌∙◌, arith}
+use Rattle.std.proofs.Common.{◌++◌, List, sym, ap, ◌∙◌, arith}
 use Rattle.std.proofs.lemmas.Result.{err_from_is_err_and}
 use Rattle.vx_elf.specs.Layout.{header_count, header_at}
-use Rattle.vx_elf.specs.Segments.{total_size, IsSegmentList}
-use Rattle.vx_elf.specs.Reading.{header_fault, headers_fault, segments_of, segments_under}
+use Rattle.vx_elf.specs.Segments.{total_size}
+use Rattle.vx_elf.specs.Reading.{header_fault, segments_under}
 use Rattle.vx_elf.specs.declared.segment.Segment.{Segment}
 use Rattle.vx_elf.proofs.Listed.{is_list, no_headers, one_more, one_more_segments, carries}
 use Rattle.vx_elf.proofs.read.read_headers.Goals as goal
