@@ -12,6 +12,8 @@ mod program;
 mod read;
 mod segment;
 mod segments;
+#[cfg(test)]
+mod tests;
 mod write;
 
 pub use fault::ElfFault;
