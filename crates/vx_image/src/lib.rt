@@ -10,6 +10,8 @@ mod fault;
 mod frames;
 mod image;
 mod search;
+#[cfg(test)]
+mod tests;
 
 pub use fault::ImageFault;
 pub use image::{Image, image_of, raw_image};
