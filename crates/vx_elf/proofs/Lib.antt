@@ -1,0 +1,7 @@
+pub mod Faults
+pub mod Fields
+pub mod Files
+pub mod Listed
+pub mod Placed
+pub mod RoundTrip
+pub mod Written

@@ -1,0 +1,8 @@
+-- The fields so far stand behind what there was.
+use Rattle.std.proofs.Common.{◌≡◌, ◌++◌, take}
+use Rattle.std.specs.List.{flat_map}
+use Rattle.vx_elf.specs.Writing.{field_bytes}
+use Rattle.vx_elf.proofs.write.put_fields.Given as goal
+
+abbrev pub invariant-loop-field : goal.invariant-loop-field
+invariant-loop-field l = l.out.items ≡ l.initial.out.items ++ flat_map field_bytes (take l.field-index l.fields)

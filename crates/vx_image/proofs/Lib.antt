@@ -1,0 +1,14 @@
+pub mod Allowed
+pub mod Assembled
+pub mod Entries
+pub mod Filling
+pub mod Laying
+pub mod Loading
+pub mod Looks
+pub mod Made
+pub mod Next
+pub mod PageFaults
+pub mod PagesAt
+pub mod Places
+pub mod Raw
+pub mod Regions

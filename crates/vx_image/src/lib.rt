@@ -1,0 +1,17 @@
+//! Images: the memory of a process page by page, and where it begins, made of a program's segments or of raw bytes.
+//!
+//! It stands on `vx_elf`. To the crates above it gives `Image`, which `image_of` and `raw_image` make or refuse with the
+//! first fault, and what it holds: the permissions and the bytes of a page, the list of pages, and how many frames its
+//! page tables take.
+#![tactic(auto)]
+
+mod build;
+mod fault;
+mod frames;
+mod image;
+mod search;
+#[cfg(test)]
+mod tests;
+
+pub use fault::ImageFault;
+pub use image::{Image, image_of, raw_image};
