@@ -56,43 +56,58 @@ SpellAll words (given ∷ givens) =
     × (given_number given.option givens ≡ None)
     × SpellAll rest givens
 
-pub data Command : Type 0 where
-  -- run the raw image of this name under these options
-  Run : (givens : List Given) (name : List ℕ) → Command
-  -- list the instructions of the file of this name
-  Dis : (name : List ℕ) → Command
-
--- the file that a command is on
-abbrev pub file_of : Command → List ℕ
-file_of (Run givens name) = name
-file_of (Dis name) = name
-
--- the word is the raw image of this name
-abbrev pub IsRawImage : List ℕ → List ℕ → Type 0
-IsRawImage word name = (0 < length name) × (word ≡ codes "raw:" ++ name)
-
 -- the word is a file: it isn't empty, and doesn't begin with `-`
 abbrev pub IsFile : List ℕ → Type 0
 IsFile [] = ⊥
 IsFile (first ∷ rest) = first ≢ 45
 
+-- what file an image is in: raw bytes, or an ELF file
+pub data ImageFile : Type 0 where
+  Raw : (name : List ℕ) → ImageFile
+  Elf : (name : List ℕ) → ImageFile
+
+-- the file's name
+abbrev pub name_of : ImageFile → List ℕ
+name_of (Raw name) = name
+name_of (Elf name) = name
+
+-- the word is raw bytes under this name
+abbrev pub IsRawImage : List ℕ → List ℕ → Type 0
+IsRawImage word name = (0 < length name) × (word ≡ codes "raw:" ++ name)
+
+-- the word is the image: `raw:` and a name is raw bytes, any other file an ELF file
+abbrev pub IsImage : List ℕ → ImageFile → Type 0
+IsImage word (Raw name) = IsRawImage word name
+IsImage word (Elf name) = (word ≡ name) × IsFile word × ((raw : List ℕ) → IsRawImage word raw → ⊥)
+
+pub data Command : Type 0 where
+  -- run the image under these options
+  Run : (givens : List Given) (image : ImageFile) → Command
+  -- list the instructions of the file of this name
+  Dis : (name : List ℕ) → Command
+
+-- the name of the file that a command is on
+abbrev pub file_of : Command → List ℕ
+file_of (Run givens image) = name_of image
+file_of (Dis name) = name
+
 -- the words ask for the command
 abbrev pub AskFor : List (List ℕ) → Command → Type 0
-AskFor words (Run givens name) =
+AskFor words (Run givens image) =
     (options : List (List ℕ))
-    × (image : List ℕ)
-    × (words ≡ codes "run" ∷ (options ++ image ∷ []))
+    × (word : List ℕ)
+    × (words ≡ codes "run" ∷ (options ++ word ∷ []))
     × SpellAll options givens
-    × IsRawImage image name
+    × IsImage word image
 AskFor words (Dis name) = (words ≡ codes "dis" ∷ name ∷ []) × IsFile name
 
 -- the words ask for a command on the file of this name
 abbrev pub AskForFile : List (List ℕ) → List ℕ → Type 0
 AskForFile words name = (command : Command) × AskFor words command × (file_of command ≡ name)
 
--- the words ask to run the image of this name
-abbrev pub AskToRun : List (List ℕ) → List ℕ → Type 0
-AskToRun words name = (givens : List Given) × AskFor words (Run givens name)
+-- the words ask to run the image
+abbrev pub AskToRun : List (List ℕ) → ImageFile → Type 0
+AskToRun words image = (givens : List Given) × AskFor words (Run givens image)
 
 -- the words ask for no command
 abbrev pub AreOutside : List (List ℕ) → Type 0
