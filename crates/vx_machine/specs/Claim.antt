@@ -2,9 +2,10 @@
 use Rattle.std.specs.Prelude.{◌≡◌, ℕ, ◌⊎◌, List, [], ◌∷◌, Some, None}
 use Rattle.vx_base.specs.Shelf.{ShelfState, AsksFor, Reads, FailsToRead, IsTooLong, IsUnasked}
 use Rattle.vx_base.specs.Sink.{SinkState, IsWritten, IsBegun, IsCutOff}
-use Rattle.vx_flat.specs.Image.{Image, raw_image, raw_fault}
-use Rattle.vx_flat.specs.declared.fault.ImageFault.{ImageFault}
-use Rattle.vx_flat.specs.declared.fault.ImageFault.TheVariants as fault
+use Rattle.vx_image.specs.Pages.{Image}
+use Rattle.vx_image.specs.Images.{raw_image, raw_fault}
+use Rattle.vx_image.specs.declared.fault.ImageFault.{ImageFault}
+use Rattle.vx_image.specs.declared.fault.ImageFault.TheVariants as fault
 use Rattle.vx_machine.specs.Accounts.{account_of, IsTrueOf}
 use Rattle.vx_machine.specs.Machine.{Settings, settings_for, machine, stop_of}
 use Rattle.vx_machine.specs.Report.{report}
