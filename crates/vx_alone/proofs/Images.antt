@@ -5,9 +5,10 @@ use Rattle.std.proofs.lemmas.Grind.{div_ceil_times}
 use Rattle.std.proofs.lemmas.List.{take-replicate, drop-replicate, drop_all, drop-drop, take_all, length-replicate, get_or_append_left, get_or-append_right}
 use Rattle.vx_base.specs.declared.perm.PageEntry.{PageEntry}
 use Rattle.vx_base.specs.declared.perm.Perm.{Perm}
-use Rattle.vx_flat.specs.Image.{padded, laid_out, stack, raw_image, raw_fault, page_count}
-use Rattle.vx_flat.specs.Memory.{Memory}
-use Rattle.vx_flat.specs.declared.fault.ImageFault.{ImageFault}
+use Rattle.vx_image.specs.Images.{raw_image, raw_fault, page_count}
+use Rattle.vx_flat.specs.Image.{padded, laid_out, stack}
+use Rattle.vx_image.specs.Pages.{Memory}
+use Rattle.vx_image.specs.declared.fault.ImageFault.{ImageFault}
 use Rattle.vx_alone.specs.Pages.{pages_by, pages_of, run_of, entry_at, IsRising, IsKept}
 
 -- the bytes of a page of a size, zero where they end

@@ -5,7 +5,8 @@ use Rattle.std.proofs.lemmas.List.{get_or-take, get_or-drop, take-set-le, drop-s
 use Rattle.std.proofs.Math.Seq.{take-set-lt}
 use Rattle.std.specs.Option.{option_map_or}
 use Rattle.vx_base.specs.declared.perm.PageEntry.{PageEntry}
-use Rattle.vx_flat.specs.Memory.{Memory, MappedPage, page_numbered, with_byte}
+use Rattle.vx_image.specs.Pages.{Memory, MappedPage, page_numbered}
+use Rattle.vx_flat.specs.Memory.{with_byte}
 use Rattle.vx_alone.specs.Pages.{pages_by, entry_at, IsRising, IsPlaceOf, Lacks}
 
 -- a page that no entry has is not mapped

@@ -3,7 +3,8 @@ use Rattle.std.specs.Prelude.{◌≡◌, ℕ, zero, suc, ◌+◌, ◌*◌, ◌<�
 use Rattle.vx_base.specs.declared.machine.Want.{Want}
 use Rattle.vx_base.specs.declared.perm.PageEntry.{PageEntry}
 use Rattle.vx_base.specs.declared.perm.Perm.{Perm}
-use Rattle.vx_flat.specs.Memory.{Memory, page_of, permits}
+use Rattle.vx_image.specs.Pages.{Memory}
+use Rattle.vx_flat.specs.Memory.{page_of, permits}
 
 -- the memory that these entries and bytes stand for, with pages of so many bytes
 unfoldable pub pages_by : ℕ → List PageEntry → List ℕ → Memory

@@ -1,11 +1,11 @@
 -- What the flat machine's calls answer. This project's own.
 use Rattle.std.specs.Prelude.{◌≡◌, ℕ, List, Option, Some, None, Result, Ok, Err}
-use Rattle.vx_flat.specs.Image.{raw_image, raw_fault}
+use Rattle.vx_image.specs.Images.{raw_image, raw_fault}
 use Rattle.vx_flat.specs.Process.{Process, begun}
 use Rattle.vx_flat.specs.declared.end.End.{End}
 use Rattle.vx_flat.specs.declared.end.End.TheVariants as end
-use Rattle.vx_flat.specs.declared.fault.ImageFault.{ImageFault}
-use Rattle.vx_flat.specs.declared.fault.ImageFault.TheVariants.{RawLength, TooManyPages, NoMemory}
+use Rattle.vx_image.specs.declared.fault.ImageFault.{ImageFault}
+use Rattle.vx_image.specs.declared.fault.ImageFault.TheVariants.{RawLength, TooManyPages, NoMemory}
 use Rattle.vx_alone.specs.declared.turn.Turn.{Turn}
 use Rattle.vx_alone.specs.declared.turn.Turn.TheVariants as turn
 

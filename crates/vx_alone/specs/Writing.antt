@@ -1,6 +1,6 @@
 -- What a write sees of a state. This project's own.
 use Rattle.std.specs.Prelude.{ℕ, List, []}
-use Rattle.vx_flat.specs.Memory.{Memory}
+use Rattle.vx_image.specs.Pages.{Memory}
 use Rattle.vx_flat.specs.State.{Flat}
 
 -- a state with this memory, in which this was written so far; a write sees no more of it

@@ -4,7 +4,7 @@ ghost use Rattle.vx_flat.specs.Process.{after, begun, stepped};
 ghost use Rattle.vx_alone.specs.Operands.{IsAligned, IsPerformable};
 ghost use Rattle.vx_base.specs.Numbers.{signed};
 ghost use Rattle.vx_decode.specs.Decoded.{decoded};
-ghost use Rattle.vx_flat.specs.Image.{raw_fault, raw_image};
+ghost use Rattle.vx_image.specs.Images.{raw_fault, raw_image};
 ghost use Rattle.vx_flat.specs.Service.{service, answered, write};
 ghost use Rattle.vx_flat.specs.State.{following, register};
 ghost use Rattle.vx_flat.specs.Scalar.{effect};
@@ -352,7 +352,7 @@ fn raw_fault(bytes: &[u8]) -> Option<ImageFault>
 }
 
 /// The machine of bytes without a fault; `None` where memory is wanting.
-#[tactic(auto, unfolding(vx_flat::specs::Image::booted, vx_flat::specs::Image::raw_image))]
+#[tactic(auto, unfolding(vx_flat::specs::Boot::booted, vx_flat::specs::Image::raw_image))]
 fn begun(alloc: Global, bytes: &[u8]) -> Option<Alone>
     requires { raw_fault bytes.now ≡ None }
     ensures { IfSome result (λ m. m ≡ begun (raw_image bytes.now)) }

@@ -6,7 +6,7 @@ use Rattle.std.specs.Prelude.{Option, Some, None, option_and_then, if◌then◌e
 use Rattle.vx_decode.specs.declared.instr.Instr.{Instr}
 use Rattle.vx_rows.specs.declared.row.Class.{Class}
 use Rattle.vx_rows.specs.declared.row.Class.TheVariants as class
-use Rattle.vx_flat.specs.Image.{Image}
+use Rattle.vx_image.specs.Pages.{Image}
 use Rattle.vx_flat.specs.Scalar.{effect}
 use Rattle.vx_flat.specs.Run.{flat, state_after, IsPrefixOf}
 use Rattle.vx_flat.specs.State.{Flat}

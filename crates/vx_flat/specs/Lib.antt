@@ -1,5 +1,5 @@
 pub mod Access
-pub mod Image
+pub mod Boot
 pub mod Memory
 pub mod Process
 pub mod Run

@@ -1,32 +1,16 @@
--- Memory by page: RISC-V Privileged 1.12, section 4.4 (Sv39: pages of 4,096 bytes, canonical addresses). Addresses are
--- numbers below 2 ^ 64, and an access that passes the last wraps.
-use Rattle.std.specs.Prelude.{ℕ, zero, suc, ◌+◌, ◌-◌, ◌/◌, ◌%◌, ◌^◌, Bool, true, false, ◌==◌, ◌&&◌, ◌||◌, List, [], ◌∷◌, map, Option, Some, None, if◌then◌else◌, slice_index, slice_set}
+-- Accesses to memory by page: RISC-V Privileged 1.12, section 4.4 (Sv39: canonical addresses). Addresses are numbers below
+-- 2 ^ 64, and an access that passes the last wraps.
+use Rattle.std.specs.Prelude.{ℕ, zero, suc, ◌+◌, ◌-◌, ◌/◌, ◌%◌, ◌^◌, Bool, true, false, ◌==◌, ◌&&◌, ◌||◌, List, [], ◌∷◌, map, if◌then◌else◌, slice_index, slice_set}
 use Rattle.std.specs.Option.{option_map_or}
 use Rattle.vx_base.specs.Permissions.{grants}
 use Rattle.vx_base.specs.declared.machine.Want.{Want}
-
-pub record MappedPage : Type 0 where
-  -- its address divided by 4,096
-  pub number : ℕ
-  -- R 4, W 2 and X 1
-  pub permissions : ℕ
-  -- its 4,096 bytes
-  pub bytes : List ℕ
-
--- the mapped pages, in rising order of their numbers
-abbrev pub Memory : Type 0
-Memory = List MappedPage
+use Rattle.vx_image.specs.Pages.{MappedPage, Memory, page_numbered}
 
 abbrev pub page_of : ℕ → ℕ
 page_of address = address / 4096
 
 abbrev pub offset_of : ℕ → ℕ
 offset_of address = address % 4096
-
--- the mapped page of that number
-abbrev pub page_numbered : ℕ → Memory → Option MappedPage
-page_numbered number [] = None
-page_numbered number (page ∷ memory) = if page.number == number then Some page else page_numbered number memory
 
 -- bits 63 to 39 equal bit 38
 abbrev pub is_canonical : ℕ → Bool

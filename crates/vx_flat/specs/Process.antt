@@ -1,6 +1,7 @@
 -- A process on its way: its flat state, how many instructions it has completed, and how it ended. This project's own.
 use Rattle.std.specs.Prelude.{ℕ, zero, suc, ◌+◌, ◌-◌, ◌^◌, min, Option, Some, None}
-use Rattle.vx_flat.specs.Image.{Image, booted}
+use Rattle.vx_image.specs.Pages.{Image}
+use Rattle.vx_flat.specs.Boot.{booted}
 use Rattle.vx_flat.specs.State.{Flat}
 use Rattle.vx_flat.specs.Step.{Outcome, step}
 use Rattle.vx_flat.specs.Step.Outcome.{Next, Exited, Faulted}

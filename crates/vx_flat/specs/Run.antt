@@ -1,7 +1,8 @@
 -- The run of an image alone, and how it ends. This project's own.
 use Rattle.std.specs.Prelude.{◌≡◌, ℕ, zero, suc, ◌+◌, ℤ, List, ◌++◌, Option, Some, None, option_and_then}
 use Rattle.vx_base.specs.declared.machine.Fault.{Fault}
-use Rattle.vx_flat.specs.Image.{Image, booted}
+use Rattle.vx_image.specs.Pages.{Image}
+use Rattle.vx_flat.specs.Boot.{booted}
 use Rattle.vx_flat.specs.State.{Flat}
 use Rattle.vx_flat.specs.Step.{Outcome, step}
 use Rattle.vx_flat.specs.Step.Outcome.{Next, Exited, Faulted}

@@ -3,7 +3,8 @@
 use Rattle.std.specs.Prelude.{ℕ, ◌+◌, ◌^◌, Bool, not, ◌==◌, ◌||◌, ◌&&◌, nat_lt, nat_le, ℤ, pos, neg_ℤ, List, [], ◌++◌, length, if◌then◌else◌}
 use Rattle.vx_base.specs.Numbers.{reduced}
 use Rattle.vx_base.specs.declared.machine.Want.TheVariants.{Load}
-use Rattle.vx_flat.specs.Memory.{Memory, all_permit, bytes_at}
+use Rattle.vx_image.specs.Pages.{Memory}
+use Rattle.vx_flat.specs.Memory.{all_permit, bytes_at}
 use Rattle.vx_flat.specs.State.{Flat, register, with_register, following}
 
 -- what a service answers in a0, and what it writes

@@ -1,7 +1,7 @@
 -- The state of the flat machine: RISC-V Unprivileged ISA 20191213, section 2.1 (registers and pc). What a process has
 -- written is this project's own.
 use Rattle.std.specs.Prelude.{ℕ, ◌==◌, List, if◌then◌else◌, slice_index, slice_set}
-use Rattle.vx_flat.specs.Memory.{Memory}
+use Rattle.vx_image.specs.Pages.{Memory}
 use Rattle.vx_flat.specs.Scalar.{next_pc}
 
 pub record Flat : Type 0 where

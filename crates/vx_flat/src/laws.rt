@@ -1,5 +1,5 @@
 ghost use Rattle.std.specs.Prelude.{◌≤◌, ◌≡◌, ℕ, Some};
-ghost use Rattle.vx_flat.specs.Image.{Image};
+ghost use Rattle.vx_image.specs.Pages.{Image};
 ghost use Rattle.vx_flat.specs.State.{Flat};
 ghost use Rattle.vx_flat.specs.Run.{flat, IsPrefixOf};
 

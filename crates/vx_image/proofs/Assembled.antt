@@ -7,7 +7,7 @@ use Rattle.vx_elf.specs.declared.segment.Segment.{Segment}
 use Rattle.vx_elf.specs.declared.segments.Segments.{Segments}
 use Rattle.vx_image.specs.Building.{entries_below, bytes_of_entries}
 use Rattle.vx_image.specs.Images.{pages_fault, image_fault, image_in, Makes}
-use Rattle.vx_image.specs.Kept.{pages_of, IsRising, IsKept}
+use Rattle.vx_image.specs.Kept.{pages_of, IsRising, IsImage}
 use Rattle.vx_image.specs.Mapping.{all_pages}
 use Rattle.vx_image.specs.Pages.{Image, Memory}
 use Rattle.vx_image.specs.declared.fault.ImageFault.{ImageFault}
@@ -28,7 +28,7 @@ module _ (segments : List Segment) (entries : List PageEntry) (list : IsSegmentL
   listed entry none = are_listed entries there (faultless entry entries (bytes_of_entries segments entries) (sym none)).0
 
 -- bytes and entries are kept as they must be
-pub kept : (segments : List Segment) (entry : ℕ) (entries : List PageEntry) (bytes : List ℕ) → bytes ≡ bytes_of_entries segments entries → IsPageList entries → entry % 4 ≡ 0 → IsKept entry entries bytes
+pub kept : (segments : List Segment) (entry : ℕ) (entries : List PageEntry) (bytes : List ℕ) → bytes ≡ bytes_of_entries segments entries → IsPageList entries → entry % 4 ≡ 0 → IsImage entry entries bytes
 kept segments entry entries bytes made is aligned = record {
   aligned = aligned;
   listed = is;

@@ -15,7 +15,7 @@ unfoldable pub pages_of : List PageEntry → List ℕ → Memory
 pages_of entries bytes = pages_by 4096 entries bytes
 
 -- each page has its bytes, the entries are those of a list of pages, and the entry point is that of an instruction
-pub record IsKept (entry : ℕ) (entries : List PageEntry) (bytes : List ℕ) : Type 0 where
+pub record IsImage (entry : ℕ) (entries : List PageEntry) (bytes : List ℕ) : Type 0 where
   pub aligned : entry % 4 ≡ 0
   pub listed : IsPageList entries
   pub whole : length bytes ≡ 4096 * length entries
@@ -27,6 +27,11 @@ entry_at entries k = slice_index_or entries k (record { page = 0; perm = record 
 -- the pages' numbers rise
 abbrev pub IsRising : List PageEntry → Type 0
 IsRising entries = (i j : ℕ) → i < j → j < length entries → (entry_at entries i).page < (entry_at entries j).page
+
+-- each page has its bytes, and each number stands once
+pub record IsKept (entries : List PageEntry) (bytes : List ℕ) : Type 0 where
+  pub whole : length bytes ≡ 4096 * length entries
+  pub rising : IsRising entries
 
 -- the entry at a place is that of the page
 pub record IsPlaceOf (entries : List PageEntry) (page k : ℕ) : Type 0 where

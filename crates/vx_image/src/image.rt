@@ -3,6 +3,7 @@ ghost use Rattle.vx_base.specs.Pages.{IsPageList};
 ghost use Rattle.vx_elf.specs.Segments.{IsSegmentList};
 ghost use Rattle.vx_image.specs.Building.{entries_below};
 ghost use Rattle.vx_image.specs.Images.{Makes, MakesRaw, raw_fault, raw_segment, raw_image, perm_of_page, entry_of_page, HoldBytes};
+ghost use Rattle.vx_image.specs.Kept.{pages_of, IsKept};
 ghost use Rattle.vx_image.specs.Mapping.{all_pages};
 ghost use Rattle.vx_image.specs.Pages.{MappedPage, page_numbered};
 ghost use Rattle.vx_image.specs.Tables.{table_frames};
@@ -34,13 +35,21 @@ pub struct Image {
 
 impl Model for Image {
     ghost use Rattle.vx_image.specs.Pages.{Image as ProcessImage};
-    ghost use Rattle.vx_image.specs.Kept.{pages_of, IsKept};
+    ghost use Rattle.vx_image.specs.Kept.{pages_of, IsImage};
 
     ghost Value = { ProcessImage };
 
     ghost view = { λ i. record { entry = i.entry; pages = pages_of i.entries.items i.bytes.items } };
 
-    ghost invariant = { λ i. IsKept i.entry i.entries.items i.bytes.items };
+    ghost invariant = { λ i. IsImage i.entry i.entries.items i.bytes.items };
+}
+
+/// What an image holds, as it is kept: the entries of its pages in rising order, and the bytes of all pages one after
+/// another, 4,096 of each.
+#[derive(Clone, Copy, Debug)]
+pub struct Contents<'a> {
+    pub entries: &'a [PageEntry],
+    pub bytes: &'a [u8],
 }
 
 impl Image {
@@ -85,6 +94,17 @@ impl Image {
         ensures { IfOk result (λ list. list ≡ map entry_of_page self.now.pages) }
     {
         Ok(PageList::of(Vec::from_slice(alloc, &self.entries)?))
+    }
+
+    /// All that it holds, for one who copies it.
+    pub fn contents(&self) -> Contents<'_>
+        ensures pages { self.now.pages ≡ pages_of result.entries.now result.bytes.now }
+        ensures kept { IsKept result.entries.now result.bytes.now }
+    {
+        Contents {
+            entries: &self.entries,
+            bytes: &self.bytes,
+        }
     }
 }
 

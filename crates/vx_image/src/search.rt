@@ -3,7 +3,7 @@ ghost use Rattle.vx_image.specs.Kept.{IsRising, IsPlaceOf, Lacks};
 
 use vx_base::PageEntry;
 
-/// The place of the entry of a page, where one has it.
+/// The place of the entry of a page among entries whose pages rise, where one has it.
 pub fn place_of(entries: &[PageEntry], page: u64) -> Option<usize>
     requires { IsRising entries.now }
     ensures { MatchOption result (Lacks entries.now page) (IsPlaceOf entries.now page) }

@@ -1,7 +1,8 @@
 -- How a process that takes steps stands to the run of its image alone.
 use Rattle.std.proofs.Common.{◌≡◌, ℕ, zero, suc, ◌-◌, ◌^◌, ◌<◌, ◌≤◌, refl, sym, ap, ◌∙◌, arith, subst}
 use Rattle.std.specs.Prelude.{Option, Some, None, option_and_then}
-use Rattle.vx_flat.specs.Image.{Image, booted}
+use Rattle.vx_image.specs.Pages.{Image}
+use Rattle.vx_flat.specs.Boot.{booted}
 use Rattle.vx_flat.specs.Process.{Process, begun, after, stepped, stepped_on}
 use Rattle.vx_flat.specs.Run.{flat, state_after, Exits, Faults, IsPrefixOf}
 use Rattle.vx_flat.specs.State.{Flat}

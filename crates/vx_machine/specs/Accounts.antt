@@ -1,7 +1,7 @@
 -- What is told of a process, and when it is so of the process alone. This project's own.
 use Rattle.std.specs.Prelude.{◌≡◌, ℕ, ◌≤◌, ℤ, List, Option, Some, None}
 use Rattle.vx_base.specs.declared.machine.Fault.{Fault}
-use Rattle.vx_flat.specs.Image.{Image}
+use Rattle.vx_image.specs.Pages.{Image}
 use Rattle.vx_flat.specs.Run.{flat, Exits, Faults, IsPrefixOf}
 use Rattle.vx_flat.specs.State.{Flat}
 use Rattle.vx_flat.specs.declared.end.End.{End}

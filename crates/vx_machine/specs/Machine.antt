@@ -1,7 +1,7 @@
 -- The machine with one process, by its rounds: a boundary, an episode of the process, and the service that ends it. This
 -- project's own.
 use Rattle.std.specs.Prelude.{ℕ, zero, suc, ◌+◌, ◌-◌, ◌/◌, Bool, false, true, ◌==◌, nat_le, List, length, Option, Some, None, if◌then◌else◌, unwrap_or}
-use Rattle.vx_flat.specs.Image.{Image}
+use Rattle.vx_image.specs.Pages.{Image}
 use Rattle.vx_flat.specs.Process.{Process, begun, stepped}
 use Rattle.vx_flat.specs.Service.{service}
 use Rattle.vx_flat.specs.State.{Flat, register}

@@ -1,5 +1,5 @@
 ghost use Rattle.std.specs.Prelude.{◌≡◌, ℕ, ◌<◌, ◌-◌, ◌^◌};
-ghost use Rattle.vx_flat.specs.Image.{Image};
+ghost use Rattle.vx_image.specs.Pages.{Image};
 ghost use Rattle.vx_flat.specs.Process.{begun, stepped_on};
 ghost use Rattle.vx_machine.specs.Accounts.{account_of, IsTrueOf};
 ghost use Rattle.vx_machine.specs.Machine.{Machine};

@@ -1,5 +1,5 @@
 ghost use Rattle.std.specs.Prelude.{◌≡◌, ◌<◌, slice_index};
-ghost use Rattle.vx_flat.specs.Image.{first_registers};
+ghost use Rattle.vx_flat.specs.Boot.{first_registers};
 ghost use Rattle.vx_flat.specs.State.{with_register};
 
 /// The registers x0 to x31, of which x0 is always 0.
@@ -11,7 +11,7 @@ pub struct Regs {
 
 impl Regs {
     /// The registers of a process that begins: x2 points below the top of the stack, and the others are 0.
-    #[tactic(auto, unfolding(vx_flat::specs::Image::first_registers))]
+    #[tactic(auto, unfolding(vx_flat::specs::Boot::first_registers))]
     pub fn first() -> Regs
         ensures { result.x ≡ first_registers }
     {

@@ -1,11 +1,11 @@
 -- What a system is seen as, and what its boot and its run do. This project's own.
 use Rattle.std.specs.Prelude.{◌≡◌, ℕ, ◌+◌, ◌≤◌, ◌<◌, ◌^◌, Bool, true, false, List, Some, None, Result, Ok, Err}
 use Rattle.vx_base.specs.declared.options.Options.{Options}
-use Rattle.vx_flat.specs.Image.{raw_image, raw_fault}
+use Rattle.vx_image.specs.Images.{raw_image, raw_fault}
 use Rattle.vx_flat.specs.Process.{Process, stepped_on}
 use Rattle.vx_flat.specs.Step.{upcoming}
-use Rattle.vx_flat.specs.declared.fault.ImageFault.{ImageFault}
-use Rattle.vx_flat.specs.declared.fault.ImageFault.TheVariants.{RawLength, TooManyPages, NoMemory}
+use Rattle.vx_image.specs.declared.fault.ImageFault.{ImageFault}
+use Rattle.vx_image.specs.declared.fault.ImageFault.TheVariants.{RawLength, TooManyPages, NoMemory}
 use Rattle.vx_flat.specs.declared.upcoming.Upcoming.{Upcoming}
 use Rattle.vx_flat.specs.declared.upcoming.Upcoming.TheVariants.{Denied, Illegal, Instruction}
 use Rattle.vx_machine.specs.Machine.{Machine, Settings, booted_machine, rounds, stop_of}

@@ -2,7 +2,7 @@
 use Rattle.std.proofs.Common.{◌≡◌, ℕ, ◌+◌, ◌-◌, ◌*◌, List, ◌++◌, length, replicate, refl, ap, ◌∙◌, arith}
 use Rattle.vx_base.specs.declared.perm.PageEntry.{PageEntry}
 use Rattle.vx_base.specs.declared.perm.Perm.{Perm}
-use Rattle.vx_flat.specs.Image.{page_count}
+use Rattle.vx_image.specs.Images.{page_count}
 use Rattle.vx_alone.specs.Pages.{pages_of, run_of}
 use Rattle.vx_alone.proofs.Images.{raw_kept, raw_pages, filled, image_fits}
 use Rattle.vx_alone.proofs.memory.Memory.of_raw.Goals as goal

@@ -3,7 +3,8 @@ use Rattle.std.proofs.Common.{◌≡◌, ◌+◌, ◌*◌, [], ◌∷◌, length
 use Rattle.std.proofs.lemmas.List.{get_or_read}
 use Rattle.vx_base.specs.Numbers.{from_little_endian}
 use Rattle.vx_base.specs.declared.machine.Want.TheVariants.{Fetch}
-use Rattle.vx_flat.specs.Memory.{Memory, permits, bytes_at}
+use Rattle.vx_image.specs.Pages.{Memory}
+use Rattle.vx_flat.specs.Memory.{permits, bytes_at}
 use Rattle.vx_alone.proofs.Accesses.{word_there}
 use Rattle.vx_alone.proofs.memory.Memory.word.Goals as goal
 
