@@ -5,9 +5,9 @@ ghost use Rattle.vx_words.specs.Words.{AskFor};
 ghost use Rattle.vx_words.specs.Words.Command.{Dis};
 ghost use Rattle.vx_top.specs.Ranges.{AreInRange};
 
+use crate::load::{name_of, read_file};
 use crate::notes;
 use crate::options::options_for;
-use crate::load::{name_of, read_file};
 use crate::run::run_file;
 use crate::tell::{tell, tell_listing, tell_refusal, tell_report};
 use std::alloc::Global;

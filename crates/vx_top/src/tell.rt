@@ -50,9 +50,7 @@ pub fn tell_refusal<N: Sink>(alloc: Global, name: &str, refusal: Refusal, note: 
 {
     match refusal {
         Refusal::ReadFault => tell(note, Status::ReadFault, notes::read_failed(alloc, name)),
-        Refusal::BadFile(fault) => {
-            tell(note, Status::BadImage, bad_image(alloc, name, fault))
-        }
+        Refusal::BadFile(fault) => { tell(note, Status::BadImage, bad_image(alloc, name, fault)) }
         Refusal::NoMemory => tell_want(note),
     }
 }
