@@ -3,18 +3,17 @@ use Rattle.std.specs.Prelude.{◌≡◌, ℕ, ◌⊎◌, List, [], ◌∷◌, So
 use Rattle.vx_base.specs.Shelf.{ShelfState, AsksFor, Reads, FailsToRead, IsTooLong, IsUnasked}
 use Rattle.vx_base.specs.Sink.{SinkState, IsWritten, IsBegun, IsCutOff}
 use Rattle.vx_image.specs.Pages.{Image}
-use Rattle.vx_image.specs.Images.{raw_image, raw_fault}
-use Rattle.vx_image.specs.declared.fault.ImageFault.{ImageFault}
-use Rattle.vx_image.specs.declared.fault.ImageFault.TheVariants as fault
 use Rattle.vx_machine.specs.Accounts.{account_of, IsTrueOf}
+use Rattle.vx_machine.specs.ImageFiles.{file_fault, image_of_file}
 use Rattle.vx_machine.specs.Machine.{Settings, settings_for, machine, stop_of}
 use Rattle.vx_machine.specs.Report.{report}
 use Rattle.vx_machine.specs.declared.stop.Stop.{Stop}
 use Rattle.vx_machine.specs.declared.stop.Stop.TheVariants as stop
 use Rattle.vx_source.specs.Listing.{listing}
-use Rattle.vx_words.specs.Notes.{FileFault, file_limit, bad_words, read_failed, bad_image, write_failed, no_memory}
-use Rattle.vx_words.specs.Notes.FileFault.{TooLong, RawLength, TooManyPages}
-use Rattle.vx_words.specs.Words.{Given, AskFor, AskForFile, AskToRun, AreOutside, IsFirstBad}
+use Rattle.vx_words.specs.Notes.{file_limit, bad_words, read_failed, bad_image, write_failed, no_memory}
+use Rattle.vx_words.specs.declared.file_fault.FileFault.{FileFault}
+use Rattle.vx_words.specs.declared.file_fault.FileFault.TheVariants.{TooLong}
+use Rattle.vx_words.specs.Words.{Given, ImageFile, name_of, AskFor, AskForFile, AskToRun, AreOutside, IsFirstBad}
 use Rattle.vx_words.specs.Words.Command.{Run, Dis}
 use Rattle.vx_words.specs.declared.status.Status.{Status}
 use Rattle.vx_words.specs.declared.status.Status.TheVariants.{Done, Usage, ReadFault, BadImage, WriteFault, Spent, NoMemory}
@@ -59,16 +58,19 @@ pub record HasReadFault (words : List (List ℕ)) (before after : Devices) : Typ
   pub out : after.out ≡ before.out
   pub note : IsNoted before after (read_failed name)
 
--- the words ask to run the image of this name, and its bytes have the fault
-abbrev pub HasBytesFault : List (List ℕ) → Devices → Devices → List ℕ → ImageFault → Type 0
-HasBytesFault words before after name fault =
-    AskToRun words name × ((bytes : List ℕ) × Reads before.shelf after.shelf name file_limit bytes × (raw_fault bytes ≡ Some fault))
+-- the words ask to run the image in the file of this name, and its bytes have the fault
+pub record HasBytesFault (words : List (List ℕ)) (before after : Devices) (name : List ℕ) (fault : FileFault) : Type 0 where
+  pub file : ImageFile
+  pub named : name ≡ name_of file
+  pub asks : AskToRun words file
+  pub bytes : List ℕ
+  pub read : Reads before.shelf after.shelf name file_limit bytes
+  pub found : file_fault file bytes ≡ Some fault
 
 -- the words ask for a command on the file of this name, and it has the fault
 abbrev pub HasFault : List (List ℕ) → Devices → Devices → List ℕ → FileFault → Type 0
 HasFault words before after name TooLong = AskForFile words name × IsTooLong before.shelf after.shelf name file_limit
-HasFault words before after name (RawLength n) = HasBytesFault words before after name (fault.RawLength n)
-HasFault words before after name (TooManyPages n) = HasBytesFault words before after name (fault.TooManyPages n)
+HasFault words before after name fault = HasBytesFault words before after name fault
 
 -- the file is refused for a fault
 pub record HasBadImage (words : List (List ℕ)) (before after : Devices) : Type 0 where
@@ -78,16 +80,16 @@ pub record HasBadImage (words : List (List ℕ)) (before after : Devices) : Type
   pub out : after.out ≡ before.out
   pub note : IsNoted before after (bad_image name fault)
 
--- the words ask for a run; the file is an image, and it ran and stopped with this status and this report
+-- the words ask for a run; the file gives an image, and it ran and stopped with this status and this report
 pub record HasRun (words : List (List ℕ)) (before after : Devices) (status : Status) (text : List ℕ) : Type 0 where
   pub givens : List Given
-  pub name : List ℕ
-  pub asks : AskFor words (Run givens name)
+  pub file : ImageFile
+  pub asks : AskFor words (Run givens file)
   pub bytes : List ℕ
-  pub read : Reads before.shelf after.shelf name file_limit bytes
-  pub is_image : raw_fault bytes ≡ None
+  pub read : Reads before.shelf after.shelf (name_of file) file_limit bytes
+  pub is_image : file_fault file bytes ≡ None
   pub stop : Stop
-  pub headline : Headline (settings_for givens) (raw_image bytes) stop text
+  pub headline : Headline (settings_for givens) (image_of_file file bytes) stop text
   pub answers : status ≡ status_of stop
 
 -- the words ask for a file's listing, and this is it

@@ -13,11 +13,11 @@ use Rattle.vx_read.proofs.Whole.{AreRun, one_reading}
 
 -- the command's word
 abbrev pub word_of : Command → List ℕ
-word_of (Run givens name) = codes "run"
+word_of (Run givens image) = codes "run"
 word_of (Dis name) = codes "dis"
 
 begins : (words : List (List ℕ)) (command : Command) → AskFor words command → (rest : List (List ℕ)) × (words ≡ word_of command ∷ rest)
-begins words (Run givens name) asks = (asks.0 ++ asks.1 ∷ [], asks.2)
+begins words (Run givens image) asks = (asks.0 ++ asks.1 ∷ [], asks.2)
 begins words (Dis name) asks = (name ∷ [], asks.0)
 
 word_is : (word : List ℕ) (rest : List (List ℕ)) (command : Command) → AskFor (word ∷ rest) command → word ≡ word_of command
@@ -36,23 +36,23 @@ pub record IsWordOf (word : List ℕ) (Fit : List (List ℕ) → Type 0) : Type 
 
 -- `run`
 abbrev RunOn : List (List ℕ) → Command → Type 0
-RunOn words (Run givens name) = AreOptionsAndImage words givens name
+RunOn words (Run givens image) = AreOptionsAndImage words givens image
 RunOn words other = ⊥
 
 run_on : (words : List (List ℕ)) (command : Command) → AskFor (codes "run" ∷ words) command → RunOn words command
-run_on words (Run givens name) asks = asked words givens name asks
+run_on words (Run givens image) asks = asked words givens image asks
 run_on words other asks = other_word (codes "run") words other refl refl asks
 
 run_fits : (words : List (List ℕ)) (command : Command) → RunOn words command → AreRun words
-run_fits words (Run givens name) on = (givens, name, on)
+run_fits words (Run givens image) on = (givens, image, on)
 run_fits words other on = absurd on
 
 run_same : (words : List (List ℕ)) (one other : Command) → RunOn words one → RunOn words other → one ≡ other
-run_same words (Run givens name) (Run others more) on_one on_other =
-    let same = one_reading words givens others name more on_one on_other in
+run_same words (Run givens image) (Run others more) on_one on_other =
+    let same = one_reading words givens others image more on_one on_other in
     let givens_are = same.0 in
-    let names_are = same.1 in cc
-run_same words (Run givens name) other on_one on_other = absurd on_other
+    let images_are = same.1 in cc
+run_same words (Run givens image) other on_one on_other = absurd on_other
 run_same words one other on_one on_other = absurd on_one
 
 pub run_word : IsWordOf (codes "run") AreRun
@@ -121,7 +121,7 @@ pub first_bad_none : IsFirstBad [] 0
 first_bad_none = record { begun = begun_none; within = omega arith; bad = λ inside begun. absurd (omega arith) }
 
 no_word : (word : List ℕ) (command : Command) → word ≢ codes "run" → word ≢ codes "dis" → word ≡ word_of command → ⊥
-no_word word (Run givens name) no_run no_dis is = no_run is
+no_word word (Run givens image) no_run no_dis is = no_run is
 no_word word (Dis name) no_run no_dis is = no_dis is
 
 pub outside_command : (word : List ℕ) (rest : List (List ℕ)) → word ≢ codes "run" → word ≢ codes "dis" → AreOutside (word ∷ rest)
@@ -141,5 +141,5 @@ one_by word Fit words rest one other of is asks_one asks_other =
     let Other : List (List ℕ) → Type 0 = λ w. AskFor w other in of.same rest one other (subst One is asks_one) (subst Other is asks_other)
 
 pub one_command : (words : List (List ℕ)) (one other : Command) → AskFor words one → AskFor words other → one ≡ other
-one_command words (Run givens name) other asks_one asks_other = one_by (codes "run") AreRun words (asks_one.0 ++ asks_one.1 ∷ []) (Run givens name) other run_word asks_one.2 asks_one asks_other
+one_command words (Run givens image) other asks_one asks_other = one_by (codes "run") AreRun words (asks_one.0 ++ asks_one.1 ∷ []) (Run givens image) other run_word asks_one.2 asks_one asks_other
 one_command words (Dis name) other asks_one asks_other = one_by (codes "dis") AreOneFile words (name ∷ []) (Dis name) other dis_word asks_one.0 asks_one asks_other

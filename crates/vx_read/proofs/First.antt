@@ -1,35 +1,36 @@
 -- What stands first in words, and which of them is the first bad one.
 use Rattle.std.proofs.Common.{◌≡◌, ℕ, ◌<◌, ◌≤◌, true, false, List, [], ◌∷◌, ◌++◌, length, Option, Some, None, is_some, decimal, refl, sym, ap, subst, ◌∙◌, inl, inr, ⊎_elim, lit<, arith}
 use Rattle.std.specs.Prelude.{codes}
-use Rattle.vx_words.specs.Words.{OptionName, Given, row_of, is_same, given_number, IsInRange, IsRawImage}
+use Rattle.vx_words.specs.Words.{OptionName, Given, row_of, is_same, given_number, IsInRange, ImageFile, IsImage}
+use Rattle.vx_words.specs.Words.ImageFile.{Raw}
 use Rattle.vx_words.specs.Words.OptionName.{Window, Lanes, Budget}
 use Rattle.vx_read.specs.declared.numbers.Numbers.{Numbers}
 use Rattle.vx_read.specs.Numbers.{number_in}
 use Rattle.vx_read.specs.Forms.{IsBoth, HasNoForm}
 use Rattle.vx_read.specs.Behind.{AreOptionsAndImage, AreNew, AreBegunBehind, AreBadBehind}
-use Rattle.vx_read.specs.Fronts.{IsGivenFront}
+use Rattle.vx_read.specs.Fronts.{IsGivenFront, AreImage}
 use Rattle.vx_read.proofs.Spellings.{same_option, is_same_itself}
 use Rattle.vx_read.proofs.Heads.{image_head, name_head, both_head, no_head}
 use Rattle.vx_read.proofs.Onward.{true_or_false}
 
--- an image of a name may end any words
-some_image : IsRawImage (codes "raw:x") (codes "x")
+-- an image may end any words
+some_image : IsImage (codes "raw:x") (Raw (codes "x"))
 some_image = (lit< tt, refl)
 
 pub begun_nowhere : (numbers : Numbers) → AreBegunBehind numbers []
-begun_nowhere numbers = record { rest = codes "raw:x" ∷ []; givens = []; name = codes "x"; asked = (codes "raw:x", refl, some_image); new = λ option number has. refl }
+begun_nowhere numbers = record { rest = codes "raw:x" ∷ []; givens = []; image = Raw (codes "x"); asked = (codes "raw:x", refl, some_image); new = λ option number has. refl }
 
 -- no words at all
 pub bad_none : (numbers : Numbers) → AreBadBehind numbers [] 0
 bad_none numbers = record {
-  outside = λ givens name asked new. none givens name asked;
+  outside = λ givens image asked new. none givens image asked;
   begun = begun_nowhere numbers;
   within = omega arith;
   bad = λ inside begun. absurd (omega arith);
 } where
-  none : (givens : List Given) (name : List ℕ) → AreOptionsAndImage [] givens name → ⊥
-  none [] name t = let e = t.1 in cc
-  none (given ∷ givens) name t =
+  none : (givens : List Given) (image : ImageFile) → AreOptionsAndImage [] givens image → ⊥
+  none [] image t = let e = t.1 in cc
+  none (given ∷ givens) image t =
       let e = t.1.1 in
       ⊎_elim
       (λ (two : t.1.0 ≡ (row_of given.option).word ∷ decimal given.number ∷ []).
@@ -39,24 +40,24 @@ bad_none numbers = record {
       t.1.2
 
 -- a first word behind which nothing may stand
-pub bad_first : (numbers : Numbers) (word : List ℕ) (rest : List (List ℕ)) → ((more : List (List ℕ)) (givens : List Given) (name : List ℕ) → AreOptionsAndImage (word ∷ more) givens name → AreNew numbers givens → ⊥) → AreBadBehind numbers (word ∷ rest) 0
+pub bad_first : (numbers : Numbers) (word : List ℕ) (rest : List (List ℕ)) → ((more : List (List ℕ)) (givens : List Given) (image : ImageFile) → AreOptionsAndImage (word ∷ more) givens image → AreNew numbers givens → ⊥) → AreBadBehind numbers (word ∷ rest) 0
 bad_first numbers word rest never = record {
   outside = never rest;
   begun = begun_nowhere numbers;
   within = omega arith;
-  bad = λ inside begun. never begun.rest begun.givens begun.name begun.asked begun.new;
+  bad = λ inside begun. never begun.rest begun.givens begun.image begun.asked begun.new;
 }
 
 pub bad_form : (numbers : Numbers) (word : List ℕ) (rest : List (List ℕ)) → HasNoForm word → AreBadBehind numbers (word ∷ rest) 0
-bad_form numbers word rest none = bad_first numbers word rest (λ more givens name asked new. no_head word more givens name none asked)
+bad_form numbers word rest none = bad_first numbers word rest (λ more givens image asked new. no_head word more givens image none asked)
 
 -- a word behind the image
-bad_behind_image : (numbers : Numbers) (word next name : List ℕ) (rest : List (List ℕ)) → IsRawImage word name → AreBadBehind numbers (word ∷ next ∷ rest) 1
-bad_behind_image numbers word next name rest image = record {
-  outside = λ givens asked_name asked new. let never = (image_head word (next ∷ rest) givens name asked_name image asked).no_words in cc;
-  begun = record { rest = []; givens = []; name = name; asked = (word, refl, image); new = λ option number has. refl };
+bad_behind_image : (numbers : Numbers) (word next : List ℕ) (image : ImageFile) (rest : List (List ℕ)) → IsImage word image → AreBadBehind numbers (word ∷ next ∷ rest) 1
+bad_behind_image numbers word next image rest is = record {
+  outside = λ givens asked_image asked new. let never = (image_head word (next ∷ rest) givens image asked_image is asked).no_words in cc;
+  begun = record { rest = []; givens = []; image = image; asked = (word, refl, is); new = λ option number has. refl };
   within = omega arith;
-  bad = λ inside begun. let never = (image_head word (next ∷ begun.rest) begun.givens name begun.name image begun.asked).no_words in cc;
+  bad = λ inside begun. let never = (image_head word (next ∷ begun.rest) begun.givens image begun.image is begun.asked).no_words in cc;
 }
 
 -- an option that has a number already
@@ -77,12 +78,12 @@ not_new numbers option given givens later has are e new =
         let cannot : None ≡ Some given.number = sym none ∙ some in cc
 
 pub bad_second_name : (numbers : Numbers) (word : List ℕ) (rest : List (List ℕ)) (option : OptionName) → word ≡ (row_of option).word → is_some (number_in option numbers) ≡ true → AreBadBehind numbers (word ∷ rest) 0
-bad_second_name numbers word rest option is has = bad_first numbers word rest (λ more givens name asked new.
-    let h = name_head word more givens name option is asked in not_new numbers option h.given givens h.later has h.givens_are h.option_is new)
+bad_second_name numbers word rest option is has = bad_first numbers word rest (λ more givens image asked new.
+    let h = name_head word more givens image option is asked in not_new numbers option h.given givens h.later has h.givens_are h.option_is new)
 
 pub bad_second_both : (numbers : Numbers) (word : List ℕ) (rest : List (List ℕ)) (option : OptionName) (text : List ℕ) → IsBoth word option text → is_some (number_in option numbers) ≡ true → AreBadBehind numbers (word ∷ rest) 0
-bad_second_both numbers word rest option text is has = bad_first numbers word rest (λ more givens name asked new.
-    let h = both_head word more givens name option text is asked in not_new numbers option h.given givens h.later has h.givens_are h.option_is new)
+bad_second_both numbers word rest option text is has = bad_first numbers word rest (λ more givens image asked new.
+    let h = both_head word more givens image option text is asked in not_new numbers option h.given givens h.later has h.givens_are h.option_is new)
 
 -- an option's word begins words that give it its least number
 least_in_range : (option : OptionName) → (row_of option).least ≤ (row_of option).greatest
@@ -110,7 +111,7 @@ begun_by_name numbers word option is none =
     record {
       rest = decimal least ∷ codes "raw:x" ∷ [];
       givens = record { option = option; number = least } ∷ [];
-      name = codes "x";
+      image = Raw (codes "x");
       asked = (codes "raw:x" ∷ [], (word ∷ decimal least ∷ [], refl, inl (ap (λ w. w ∷ decimal least ∷ []) is)), (omega arith, least_in_range option), refl, (codes "raw:x", refl, some_image));
       new = least_new numbers option least (is_none (number_in option numbers) none);
     }
@@ -118,7 +119,7 @@ begun_by_name numbers word option is none =
 -- an option's word without a number
 pub bad_end : (numbers : Numbers) (word : List ℕ) (option : OptionName) → word ≡ (row_of option).word → is_some (number_in option numbers) ≡ false → AreBadBehind numbers (word ∷ []) 1
 bad_end numbers word option is none = record {
-  outside = λ givens name asked new. let never = (name_head word [] givens name option is asked).words_are in cc;
+  outside = λ givens image asked new. let never = (name_head word [] givens image option is asked).words_are in cc;
   begun = begun_by_name numbers word option is none;
   within = omega arith;
   bad = λ inside begun. absurd (omega arith);
@@ -137,20 +138,20 @@ no_number option text given never e in_range is =
 -- a text that is no number of the option, as a word of its own and behind `=`
 pub bad_number : (numbers : Numbers) (word text : List ℕ) (rest : List (List ℕ)) (option : OptionName) → word ≡ (row_of option).word → is_some (number_in option numbers) ≡ false → IsNoNumber option text → AreBadBehind numbers (word ∷ text ∷ rest) 1
 bad_number numbers word text rest option is none never = record {
-  outside = λ givens name asked new. cannot rest givens name asked;
+  outside = λ givens image asked new. cannot rest givens image asked;
   begun = begun_by_name numbers word option is none;
   within = omega arith;
-  bad = λ inside begun. cannot begun.rest begun.givens begun.name begun.asked;
+  bad = λ inside begun. cannot begun.rest begun.givens begun.image begun.asked;
 } where
-  cannot : (more : List (List ℕ)) (givens : List Given) (name : List ℕ) → AreOptionsAndImage (word ∷ text ∷ more) givens name → ⊥
-  cannot more givens name asked =
-      let h = name_head word (text ∷ more) givens name option is asked in
+  cannot : (more : List (List ℕ)) (givens : List Given) (image : ImageFile) → AreOptionsAndImage (word ∷ text ∷ more) givens image → ⊥
+  cannot more givens image asked =
+      let h = name_head word (text ∷ more) givens image option is asked in
       let e = h.words_are in
       no_number option text h.given never h.option_is h.in_range (cc)
 
 pub bad_both_number : (numbers : Numbers) (word text : List ℕ) (rest : List (List ℕ)) (option : OptionName) → IsBoth word option text → IsNoNumber option text → AreBadBehind numbers (word ∷ rest) 0
-bad_both_number numbers word text rest option is never = bad_first numbers word rest (λ more givens name asked new.
-    let h = both_head word more givens name option text is asked in no_number option text h.given never h.option_is h.in_range h.text_is)
+bad_both_number numbers word text rest option is never = bad_first numbers word rest (λ more givens image asked new.
+    let h = both_head word more givens image option text is asked in no_number option text h.given never h.option_is h.in_range h.text_is)
 
 -- an option and its number, in two words and in one
 pub given_in_two : (numbers : Numbers) (word text : List ℕ) (rest : List (List ℕ)) (given : Given) → word ≡ (row_of given.option).word → text ≡ decimal given.number → IsInRange given → is_some (number_in given.option numbers) ≡ false → IsGivenFront numbers (word ∷ text ∷ rest) given rest
@@ -167,7 +168,11 @@ given_in_one numbers word text rest given is number in_range none = record {
   first_time = is_none (number_in given.option numbers) none;
 }
 
--- words behind an image
-pub bad_behind : (numbers : Numbers) (word name : List ℕ) (rest : List (List ℕ)) → IsRawImage word name → 0 < length rest → AreBadBehind numbers (word ∷ rest) 1
-bad_behind numbers word name [] image some = absurd (omega arith)
-bad_behind numbers word name (next ∷ rest) image some = bad_behind_image numbers word next name rest image
+-- an image, with words behind it and alone
+pub bad_behind : (numbers : Numbers) (word : List ℕ) (image : ImageFile) (rest : List (List ℕ)) → IsImage word image → 0 < length rest → AreBadBehind numbers (word ∷ rest) 1
+bad_behind numbers word image [] is some = absurd (omega arith)
+bad_behind numbers word image (next ∷ rest) is some = bad_behind_image numbers word next image rest is
+
+pub image_alone : (word : List ℕ) (image : ImageFile) (rest : List (List ℕ)) → length rest ≡ 0 → IsImage word image → AreImage (word ∷ rest) image
+image_alone word image [] none is = (word, refl, is)
+image_alone word image (next ∷ rest) none is = absurd (omega arith)

@@ -1,7 +1,7 @@
 -- How far the words behind `run` are read.
 use Rattle.std.proofs.Common.{◌≡◌, ℕ, ◌+◌, ◌<◌, List, [], ◌∷◌, ◌++◌, length, Option, Some, None, decimal, refl, ap, subst, ◌∙◌, ⊎_elim, length-append, arith}
 use Rattle.std.specs.Prelude.{codes}
-use Rattle.vx_words.specs.Words.{Given, row_of, Spell}
+use Rattle.vx_words.specs.Words.{Given, row_of, Spell, ImageFile}
 use Rattle.vx_read.specs.declared.numbers.Numbers.{Numbers}
 use Rattle.vx_read.specs.Numbers.{number_in, nothing}
 use Rattle.vx_read.specs.Behind.{AreWith, AreBadBehind, AreReadBehind, either}
@@ -12,14 +12,14 @@ use Rattle.vx_read.proofs.Onward.{IsNewGiven, read_from, bad_from}
 pub record LeadTo (words : List (List ℕ)) (numbers : Numbers) (rest : List (List ℕ)) : Type 0 where
   pub passed : ℕ
   pub lengths : length words ≡ passed + length rest
-  pub read : (final : Numbers) (name : List ℕ) → AreReadBehind numbers final rest name → AreReadBehind nothing final words name
+  pub read : (final : Numbers) (image : ImageFile) → AreReadBehind numbers final rest image → AreReadBehind nothing final words image
   pub bad : (index : ℕ) → AreBadBehind numbers rest index → AreBadBehind nothing words (passed + index)
 
 pub lead_start : (words : List (List ℕ)) → LeadTo words nothing words
 lead_start words = record {
   passed = 0;
   lengths = omega arith;
-  read = λ final name read. read;
+  read = λ final image read. read;
   bad = λ index bad. let At : ℕ → Type 0 = λ i. AreBadBehind nothing words i in let e : index ≡ 0 + index = omega arith in subst At e bad;
 }
 
@@ -46,7 +46,7 @@ lead_on words numbers rest given after behind lead front with =
     record {
       passed = lead.passed + length item;
       lengths = omega arith;
-      read = λ final name read. lead.read final name (read_from numbers given after final rest behind name spelled step read);
+      read = λ final image read. lead.read final image (read_from numbers given after final rest behind image spelled step read);
       bad = λ index bad.
           let At : ℕ → Type 0 = λ i. AreBadBehind nothing words i in
           let e : lead.passed + (length item + index) ≡ lead.passed + length item + index = omega arith in
@@ -57,10 +57,10 @@ either_none : (had : Option ℕ) → had ≡ either had None
 either_none None = refl
 either_none (Some number) = refl
 
-pub image_read : (numbers : Numbers) (words : List (List ℕ)) (name : List ℕ) → AreImage words name → AreReadBehind numbers numbers words name
-image_read numbers words name image = record {
+pub image_read : (numbers : Numbers) (words : List (List ℕ)) (image : ImageFile) → AreImage words image → AreReadBehind numbers numbers words image
+image_read numbers words image are = record {
   givens = [];
-  asked = image;
+  asked = are;
   new = λ option number has. refl;
   numbers = λ option. either_none (number_in option numbers);
 }

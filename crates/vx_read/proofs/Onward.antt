@@ -1,7 +1,7 @@
 -- From the words behind an option to the words from it on.
 use Rattle.std.proofs.Common.{◌≡◌, ℕ, ◌+◌, Bool, true, false, cond, ◌⊎◌, List, ◌∷◌, ◌++◌, length, take, Option, Some, None, refl, sym, ap, subst, ◌∙◌, inl, inr, ⊎_elim, append_assoc, length-append, add_assoc, arith}
 use Rattle.std.proofs.Math.Seq.{take-append-add}
-use Rattle.vx_words.specs.Words.{OptionName, Given, is_same, given_number, IsInRange}
+use Rattle.vx_words.specs.Words.{OptionName, Given, is_same, given_number, IsInRange, ImageFile}
 use Rattle.vx_read.specs.declared.numbers.Numbers.{Numbers}
 use Rattle.vx_read.specs.Numbers.{number_in}
 use Rattle.vx_read.specs.Behind.{SpellBefore, AreNew, AreWith, AreBegunBehind, AreBadBehind, AreReadBehind, either}
@@ -57,8 +57,8 @@ either_step true number before later none = rw (none refl) refl
 either_step false number before later none = refl
 
 -- what is read behind it is read from it on
-pub read_from : (before : Numbers) (given : Given) (after final : Numbers) (words rest : List (List ℕ)) (name : List ℕ) → SpellBefore words given rest → IsNewGiven before given after → AreReadBehind after final rest name → AreReadBehind before final words name
-read_from before given after final words rest name spelled step read = record {
+pub read_from : (before : Numbers) (given : Given) (after final : Numbers) (words rest : List (List ℕ)) (image : ImageFile) → SpellBefore words given rest → IsNewGiven before given after → AreReadBehind after final rest image → AreReadBehind before final words image
+read_from before given after final words rest image spelled step read = record {
   givens = given ∷ read.givens;
   asked = (rest, spelled, step.in_range, once_later before given after read.givens step read.new, read.asked);
   new = new_from before given after read.givens step read.new;
@@ -76,7 +76,7 @@ begun_from before given after words rest spelled step begun =
     record {
       rest = begun.rest;
       givens = given ∷ begun.givens;
-      name = begun.name;
+      image = begun.image;
       asked = (rest ++ begun.rest, (spelled.0, e, spelled.2), step.in_range, once_later before given after begun.givens step begun.new, begun.asked);
       new = new_from before given after begun.givens step begun.new;
     }
@@ -84,12 +84,12 @@ begun_from before given after words rest spelled step begun =
 begun_onward : (before : Numbers) (given : Given) (after : Numbers) (words rest : List (List ℕ)) → SpellBefore words given rest → IsNewGiven before given after → AreBegunBehind before words → AreBegunBehind after rest
 begun_onward before given after words rest spelled step begun =
     let e : words ++ begun.rest ≡ spelled.0 ++ (rest ++ begun.rest) = ap (λ w. w ++ begun.rest) spelled.1 ∙ append_assoc spelled.0 rest begun.rest in
-    let h = spelled_head (words ++ begun.rest) given (rest ++ begun.rest) begun.givens begun.name (spelled.0, e, spelled.2) step.in_range begun.asked in
+    let h = spelled_head (words ++ begun.rest) given (rest ++ begun.rest) begun.givens begun.image (spelled.0, e, spelled.2) step.in_range begun.asked in
     let New : List Given → Type 0 = λ givens. AreNew before givens in
     record {
       rest = begun.rest;
       givens = h.later;
-      name = begun.name;
+      image = begun.image;
       asked = h.asked;
       new = new_onward before given after h.later step h.once (subst New h.givens_are begun.new);
     }
@@ -103,10 +103,10 @@ bad_from before given after words rest passed index spelled step lengths bad =
     let begun_words : take (passed + index) words ≡ item ++ take index rest = rw (passed_is, e) (take-append-add item rest index) in
     let more_words : take (passed + index + 1) words ≡ item ++ take (index + 1) rest = rw (passed_is, e, add_assoc) (take-append-add item rest (index + 1)) in
     record {
-      outside = λ givens name asked new.
-          let h = spelled_head words given rest givens name spelled step.in_range asked in
+      outside = λ givens image asked new.
+          let h = spelled_head words given rest givens image spelled step.in_range asked in
           let New : List Given → Type 0 = λ givens. AreNew before givens in
-          bad.outside h.later name h.asked (new_onward before given after h.later step h.once (subst New h.givens_are new));
+          bad.outside h.later image h.asked (new_onward before given after h.later step h.once (subst New h.givens_are new));
       begun = begun_from before given after (take (passed + index) words) (take index rest) (item, begun_words, spelled.2) step bad.begun;
       within = let w = bad.within in omega arith;
       bad = λ inside begun. bad.bad (omega arith) (begun_onward before given after (take (passed + index + 1) words) (take (index + 1) rest) (item, more_words, spelled.2) step begun);

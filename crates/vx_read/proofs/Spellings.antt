@@ -1,9 +1,10 @@
 -- A word is spelled in one way: it is one option's word, or one option's word with one text behind it, or one image.
-use Rattle.std.proofs.Common.{◌≡◌, ℕ, Bool, true, false, List, [], ◌∷◌, ◌++◌, get_or, Option, Some, None, cond, eqb, refl, sym, ap, ◌∙◌, arith}
+use Rattle.std.proofs.Common.{◌≡◌, ◌≢◌, ℕ, Bool, true, false, List, [], ◌∷◌, ◌++◌, get_or, Option, Some, None, cond, eqb, refl, sym, ap, subst, ◌∙◌, arith}
 use Rattle.std.specs.Prelude.{codes}
 use Rattle.std.specs.Str.{bytes_eq}
 use Rattle.std.proofs.lemmas.Bool.{false≢true}
-use Rattle.vx_words.specs.Words.{OptionName, row_of, is_same, IsRawImage}
+use Rattle.vx_words.specs.Words.{OptionName, row_of, is_same, IsFile, ImageFile, IsRawImage, IsImage}
+use Rattle.vx_words.specs.Words.ImageFile.{Raw, Elf}
 use Rattle.vx_words.specs.Words.OptionName.{Window, Lanes, Budget}
 use Rattle.vx_read.specs.Forms.{IsBoth}
 
@@ -72,23 +73,36 @@ both_is_both word one other text more is_one is_other =
       sym (row_is_both one text).behind ∙ ap behind_equals same ∙ (row_is_both other more).behind,
     )
 
--- an image is neither
-image_first : (word name : List ℕ) → IsRawImage word name → get_or word 0 0 ≡ 114
-image_first word name image = rw image.1 refl
+-- an image is a file, and so neither
+no_dash : (first : ℕ) → first ≡ 114 → first ≢ 45
+no_dash first is dash = omega arith
 
-pub image_is_not_name : (word name : List ℕ) (option : OptionName) → IsRawImage word name → word ≡ (row_of option).word → ⊥
-image_is_not_name word name option image is =
-    let raw = image_first word name image in
-    let first : get_or word 0 0 ≡ 45 = rw is (row_is_name option).first in omega arith
+raw_is_file : (word name : List ℕ) → IsRawImage word name → IsFile word
+raw_is_file word name raw = let File : List ℕ → Type 0 = λ w. IsFile w in subst File (sym raw.1) (no_dash 114 refl)
 
-pub image_is_not_both : (word name text : List ℕ) (option : OptionName) → IsRawImage word name → IsBoth word option text → ⊥
-image_is_not_both word name text option image is =
-    let raw = image_first word name image in
-    let first : get_or word 0 0 ≡ 45 = rw is (row_is_both option text).first in omega arith
+pub image_is_file : (word : List ℕ) (image : ImageFile) → IsImage word image → IsFile word
+image_is_file word (Raw name) is = raw_is_file word name is
+image_is_file word (Elf name) is = is.1
 
-pub image_is_image : (word one other : List ℕ) → IsRawImage word one → IsRawImage word other → one ≡ other
-image_is_image word one other is_one is_other =
+file_first : (word : List ℕ) → IsFile word → get_or word 0 0 ≢ 45
+file_first [] file = absurd file
+file_first (first ∷ rest) file = file
+
+pub image_is_not_name : (word : List ℕ) (image : ImageFile) (option : OptionName) → IsImage word image → word ≡ (row_of option).word → ⊥
+image_is_not_name word image option is_image is =
+    let first : get_or word 0 0 ≡ 45 = rw is (row_is_name option).first in file_first word (image_is_file word image is_image) first
+
+pub image_is_not_both : (word : List ℕ) (image : ImageFile) (text : List ℕ) (option : OptionName) → IsImage word image → IsBoth word option text → ⊥
+image_is_not_both word image text option is_image is =
+    let first : get_or word 0 0 ≡ 45 = rw is (row_is_both option text).first in file_first word (image_is_file word image is_image) first
+
+-- a word is one image
+pub image_is_image : (word : List ℕ) (one other : ImageFile) → IsImage word one → IsImage word other → one ≡ other
+image_is_image word (Raw one) (Raw other) is_one is_other =
     let same : codes "raw:" ++ one ≡ codes "raw:" ++ other = sym is_one.1 ∙ is_other.1 in cc
+image_is_image word (Raw one) (Elf other) is_one is_other = absurd (is_other.2 one is_one)
+image_is_image word (Elf one) (Raw other) is_one is_other = absurd (is_one.2 other is_other)
+image_is_image word (Elf one) (Elf other) is_one is_other = ap (λ name. Elf name) (sym is_one.0 ∙ is_other.0)
 
 -- an option is the same as itself, and as no other
 pub same_option : (one other : OptionName) → is_same one other ≡ true → one ≡ other

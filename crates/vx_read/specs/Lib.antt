@@ -1,4 +1,5 @@
 pub mod Settings
+pub mod Images
 pub mod Numbers
 pub mod Forms
 pub mod Behind

@@ -1,9 +1,10 @@
 -- The numbers that options were given so far. This project's own.
-use Rattle.std.specs.Prelude.{◌≡◌, ℕ, List, Option, None}
-use Rattle.vx_words.specs.Words.{OptionName}
+use Rattle.std.specs.Prelude.{◌≡◌, ℕ, Option, None}
+use Rattle.vx_words.specs.Words.{OptionName, ImageFile}
 use Rattle.vx_words.specs.Words.OptionName.{Window, Lanes, Budget}
 use Rattle.vx_read.specs.declared.numbers.Numbers.{Numbers}
 use Rattle.vx_read.specs.declared.run_words.RunWords.{RunWords}
+use Rattle.vx_read.specs.Images.{image_of}
 
 -- the option's number
 abbrev pub number_in : OptionName → Numbers → Option ℕ
@@ -15,9 +16,9 @@ number_in Budget numbers = numbers.budget
 abbrev pub nothing : Numbers
 nothing = record { window = None; lanes = None; budget = None }
 
--- the words of a run are these numbers and this name
-pub record IsRunOf (numbers : Numbers) (name : List ℕ) (run : RunWords) : Type 0 where
+-- the words of a run are these numbers and this image
+pub record IsRunOf (numbers : Numbers) (image : ImageFile) (run : RunWords) : Type 0 where
   pub window : run.window ≡ numbers.window
   pub lanes : run.lanes ≡ numbers.lanes
   pub budget : run.budget ≡ numbers.budget
-  pub name_is : run.name.now ≡ name
+  pub image_is : image_of run.image ≡ image

@@ -6,12 +6,13 @@ use Rattle.vx_words.specs.Words.Command.{Run, Dis}
 use Rattle.vx_read.specs.declared.asked.Asked.{Asked}
 use Rattle.vx_read.specs.declared.asked.Asked.TheVariants as asked
 use Rattle.vx_read.specs.declared.run_words.RunWords.{RunWords}
+use Rattle.vx_read.specs.Images.{image_of}
 
--- the words ask to run the raw image of this name under these options; each number is the one that its option is given,
+-- the words ask to run this image under these options; each number is the one that its option is given,
 -- and lies in the option's range
 pub record AreRead (words : List (List ℕ)) (run : RunWords) : Type 0 where
   pub givens : List Given
-  pub asked : AskFor words (Run givens run.name.now)
+  pub asked : AskFor words (Run givens (image_of run.image))
   pub window : run.window ≡ given_number Window givens
   pub lanes : run.lanes ≡ given_number Lanes givens
   pub budget : run.budget ≡ given_number Budget givens

@@ -3,7 +3,7 @@ use crate::run_words::RunWords;
 /// What the words of the command line ask for.
 #[derive(Clone, Copy, PartialEq, Eq, Debug)]
 pub enum Asked<'a> {
-    /// Run a raw image under options.
+    /// Run an image under options.
     Run(RunWords<'a>),
     /// List the instructions of the file of this name, which isn't empty and doesn't begin with `-`.
     Dis(&'a str),

@@ -5,7 +5,7 @@ ghost use Rattle.vx_read.specs.Files.{IsOneFile, AreOneFile, AreBad};
 use crate::fronts::first_word;
 
 /// Whether the word is a file: it isn't empty, and doesn't begin with `-`.
-fn is_file(word: &str) -> bool
+pub fn is_file(word: &str) -> bool
     ensures { IsTrue result ↔ IsFile word.now }
 {
     match word.as_bytes().first() {

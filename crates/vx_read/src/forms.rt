@@ -1,13 +1,15 @@
-ghost use Rattle.std.specs.Prelude.{◌≡◌, ◌≢◌, ℕ, ◌<◌, List, ◌++◌, length, slice_index, codes};
+ghost use Rattle.std.specs.Prelude.{◌≡◌, ◌≢◌, ℕ, ◌<◌, length, slice_index};
+ghost use Rattle.vx_words.specs.Words.{ImageFile, IsImage};
 ghost use Rattle.vx_read.specs.Forms.{IsOfForm};
 
+use crate::image_word::{ImageWord, image_in};
 use crate::settings::Setting;
 
 /// What a word is, taken alone.
 #[derive(Clone, Copy)]
 pub enum Form<'a> {
-    /// The raw image of this name, which isn't empty.
-    Image(&'a str),
+    /// This image.
+    Image(ImageWord<'a>),
     /// An option's word.
     Name(Setting),
     /// An option's word, `=`, and this text.
@@ -20,16 +22,15 @@ pub enum Form<'a> {
 pub fn form_of(word: &str) -> Form<'_>
     ensures { IsOfForm word.now result }
 {
-    match word.strip_prefix("raw:") {
-        Some("") => Form::Other,
-        Some(name) => Form::Image(name),
+    match image_in(word) {
+        Some(image) => Form::Image(image),
         None => option_form(word),
     }
 }
 
-/// What the word, which doesn't begin with `raw:`, is.
+/// What the word, which is no image, is.
 fn option_form(word: &str) -> Form<'_>
-    requires { (name : List ℕ) → word.now ≡ codes "raw:" ++ name → ⊥ }
+    requires { (image : ImageFile) → IsImage word.now image → ⊥ }
     ensures { IsOfForm word.now result }
 {
     let Some((name, number)) = word.split_once('=') else {
@@ -41,9 +42,9 @@ fn option_form(word: &str) -> Form<'_>
     }
 }
 
-/// What the word, which doesn't begin with `raw:` and has no `=`, is.
+/// What the word, which is no image and has no `=`, is.
 fn name_form(word: &str) -> Form<'_>
-    requires no_image { (name : List ℕ) → word.now ≡ codes "raw:" ++ name → ⊥ }
+    requires no_image { (image : ImageFile) → IsImage word.now image → ⊥ }
     requires no_equals { (k : ℕ) → k < length word.now → slice_index word.now k ≢ 61 }
     ensures { IsOfForm word.now result }
 {

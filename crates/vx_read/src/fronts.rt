@@ -1,11 +1,13 @@
 ghost use Rattle.std.specs.Prelude.{◌≡◌, ℕ, List, [], ◌∷◌, map, MatchOption, string_bytes};
-ghost use Rattle.vx_words.specs.Words.{row_of, IsRawImage};
+ghost use Rattle.vx_words.specs.Words.{row_of, IsImage};
 ghost use Rattle.vx_read.specs.Settings.{option_of};
+ghost use Rattle.vx_read.specs.Images.{image_of};
 ghost use Rattle.vx_read.specs.Forms.{IsBoth};
 ghost use Rattle.vx_read.specs.Fronts.{IsFront};
 
 use crate::digits::number_for;
 use crate::forms::{Form, form_of};
+use crate::image_word::ImageWord;
 use crate::numbers::Numbers;
 use crate::settings::Setting;
 
@@ -14,8 +16,8 @@ use crate::settings::Setting;
 pub enum Front<'a> {
     /// An option, its number, and the words behind them.
     Given(Setting, u64, &'a [String]),
-    /// The raw image of this name, which ends the words.
-    Image(&'a str),
+    /// This image, which ends the words.
+    Image(ImageWord<'a>),
     /// Nothing that may stand there: the index of the first bad word.
     Bad(usize),
 }
@@ -38,19 +40,19 @@ pub fn front_of<'a>(words: &'a [String], numbers: &Numbers) -> Front<'a>
         return Front::Bad(0);
     };
     match form_of(word) {
-        Form::Image(name) => image_front(name, rest, numbers),
+        Form::Image(image) => image_front(image, rest, numbers),
         Form::Name(setting) => name_front(setting, rest, numbers),
         Form::Both(setting, text) => both_front(setting, text, rest, numbers),
         Form::Other => Front::Bad(0),
     }
 }
 
-/// What stands first where that is the image of this name, and these words are behind it.
-fn image_front<'a>(name: &'a str, rest: &'a [String], numbers: &Numbers) -> Front<'a>
-    ensures { (word : List ℕ) → IsRawImage word name.now → IsFront numbers.now (word ∷ map string_bytes rest.now) result }
+/// What stands first where that is this image, and these words are behind it.
+fn image_front<'a>(image: ImageWord<'a>, rest: &'a [String], numbers: &Numbers) -> Front<'a>
+    ensures { (word : List ℕ) → IsImage word (image_of image.entry) → IsFront numbers.now (word ∷ map string_bytes rest.now) result }
 {
     if rest.is_empty() {
-        Front::Image(name)
+        Front::Image(image)
     } else {
         Front::Bad(1)
     }

@@ -10,6 +10,7 @@ mod digits;
 mod files;
 mod forms;
 mod fronts;
+mod image_word;
 mod laws;
 mod numbers;
 mod reader;
@@ -19,6 +20,7 @@ mod settings;
 mod tests;
 
 pub use asked::Asked;
+pub use image_word::ImageWord;
 pub use laws::{first_bad_word_is_one, words_ask_for_one_command};
 pub use reader::read;
 pub use run_words::RunWords;

@@ -1,8 +1,10 @@
 ghost use Rattle.std.specs.Prelude.{◌≡◌, ◌≤◌, Option, Some, None, is_some, if◌then◌else◌};
 ghost use Rattle.vx_words.specs.Words.{OptionName, row_of, is_same};
 ghost use Rattle.vx_read.specs.Settings.{option_of};
+ghost use Rattle.vx_read.specs.Images.{image_of};
 ghost use Rattle.vx_read.specs.Numbers.{number_in, nothing, IsRunOf};
 
+use crate::image_word::ImageWord;
 use crate::run_words::RunWords;
 use crate::settings::Setting;
 
@@ -59,14 +61,14 @@ impl Numbers {
     }
 
     /// The words of `run` with these numbers and this image.
-    pub fn run_of<'a>(self, name: &'a str) -> RunWords<'a>
-        ensures { IsRunOf self name.now result }
+    pub fn run_of<'a>(self, image: ImageWord<'a>) -> RunWords<'a>
+        ensures { IsRunOf self (image_of image.entry) result }
     {
         RunWords {
             window: self.window,
             lanes: self.lanes,
             budget: self.budget,
-            name,
+            image,
         }
     }
 }

@@ -10,11 +10,12 @@ use crate::fronts::{Front, first_word, front_of};
 use crate::numbers::Numbers;
 use crate::run_words::RunWords;
 
-/// Reads the words of the command line, without the program's name: `run`, then options, then `raw:NAME`; or `dis FILE`.
+/// Reads the words of the command line, without the program's name: `run`, then options, then an image; or `dis FILE`.
 ///
 /// An option is two words, `--name number`, or one, `--name=number`; each is given at most once. A number is its decimal
-/// digits without a leading zero, in the option's range. NAME isn't empty, FILE isn't empty and doesn't begin with `-`, and
-/// both end the words. The command line is this project's own.
+/// digits without a leading zero, in the option's range. An image is `raw:NAME` with NAME not empty, which is raw bytes, or
+/// else FILE, an ELF file. FILE isn't empty and doesn't begin with `-`. An image and FILE end the words. The command line is
+/// this project's own.
 ///
 /// Where the words ask for no command, the answer is the index, from 0, of the first word that no command has behind
 /// those before it; where the words are a proper beginning of a command's, it is their number.
@@ -52,7 +53,7 @@ fn read_run<'a>(words: &'a [String]) -> Result<RunWords<'a>, usize>
                 numbers = numbers.with(setting, number);
                 rest = behind;
             }
-            Front::Image(name) => return Ok(numbers.run_of(name)),
+            Front::Image(image) => return Ok(numbers.run_of(image)),
             Front::Bad(index) => return Err(words.len() - rest.len() + index),
         }
     }

@@ -1,3 +1,5 @@
+use crate::image_word::ImageWord;
+
 /// What the words of `run` say. An option that isn't given has no number.
 #[derive(Clone, Copy, PartialEq, Eq, Debug)]
 pub struct RunWords<'a> {
@@ -7,6 +9,6 @@ pub struct RunWords<'a> {
     pub lanes: Option<u32>,
     /// Cycles after which the run ends: 1 to 2^40.
     pub budget: Option<u64>,
-    /// The name of the raw image, which isn't empty.
-    pub name: &'a str,
+    /// What file the image is in.
+    pub image: ImageWord<'a>,
 }

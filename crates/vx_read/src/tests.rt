@@ -1,4 +1,4 @@
-use crate::{Asked, RunWords, first_bad_word_is_one, read, words_ask_for_one_command};
+use crate::{Asked, ImageWord, RunWords, first_bad_word_is_one, read, words_ask_for_one_command};
 use std::alloc::{AllocError, Global};
 use std::process::Abort;
 use std::test::Fail;
@@ -28,7 +28,7 @@ fn asks(rt: &impl Abort, alloc: Global, line: &str, want: Asked<'_>) -> Result<(
     Ok(())
 }
 
-/// Sees that the line asks for a run with these numbers and this name.
+/// Sees that the line asks for a run with these numbers and this image.
 fn accepted(
     rt: &impl Abort,
     alloc: Global,
@@ -38,13 +38,13 @@ fn accepted(
     asks(rt, alloc, line, Asked::Run(want))
 }
 
-/// A run of this name under no option.
-fn plain(name: &str) -> RunWords<'_> {
+/// A run of this image under no option.
+fn plain(image: ImageWord<'_>) -> RunWords<'_> {
     RunWords {
         window: None,
         lanes: None,
         budget: None,
-        name,
+        image,
     }
 }
 
@@ -52,12 +52,12 @@ fn plain(name: &str) -> RunWords<'_> {
 fn each_spelling_is_read(rt: HostRuntime) -> Result<(), Fail> {
     let alloc = rt.alloc();
     for line in ["run --window 1 raw:hi", "run --window=1 raw:hi"] {
-        let mut want = plain("hi");
+        let mut want = plain(ImageWord::Raw("hi"));
         want.window = Some(1);
         accepted(&rt, alloc, line, want)?;
     }
     for line in ["run --lanes 1 raw:hi", "run --lanes=1 raw:hi"] {
-        let mut want = plain("hi");
+        let mut want = plain(ImageWord::Raw("hi"));
         want.lanes = Some(1);
         accepted(&rt, alloc, line, want)?;
     }
@@ -67,7 +67,7 @@ fn each_spelling_is_read(rt: HostRuntime) -> Result<(), Fail> {
         ("run --budget 1099511627776 raw:hi", 1 << 40),
         ("run --budget=1099511627776 raw:hi", 1 << 40),
     ] {
-        let mut want = plain("hi");
+        let mut want = plain(ImageWord::Raw("hi"));
         want.budget = Some(budget);
         accepted(&rt, alloc, line, want)?;
     }
@@ -75,7 +75,7 @@ fn each_spelling_is_read(rt: HostRuntime) -> Result<(), Fail> {
         window: Some(1),
         lanes: Some(1),
         budget: Some(70),
-        name: "hi",
+        image: ImageWord::Raw("hi"),
     };
     accepted(
         &rt,
@@ -89,7 +89,7 @@ fn each_spelling_is_read(rt: HostRuntime) -> Result<(), Fail> {
 }
 
 #[test]
-fn any_name_is_read_that_is_not_empty(rt: HostRuntime) -> Result<(), Fail> {
+fn a_raw_name_is_not_empty(rt: HostRuntime) -> Result<(), Fail> {
     let alloc = rt.alloc();
     for (line, name) in [
         ("run raw:hi", "hi"),
@@ -97,8 +97,29 @@ fn any_name_is_read_that_is_not_empty(rt: HostRuntime) -> Result<(), Fail> {
         ("run raw:raw:", "raw:"),
         ("run raw:--budget=5", "--budget=5"),
     ] {
-        accepted(&rt, alloc, line, plain(name))?;
+        accepted(&rt, alloc, line, plain(ImageWord::Raw(name)))?;
     }
+    Ok(())
+}
+
+#[test]
+fn any_other_file_is_an_elf_image(rt: HostRuntime) -> Result<(), Fail> {
+    let alloc = rt.alloc();
+    for (line, name) in [
+        ("run hi", "hi"),
+        ("run raw:", "raw:"),
+        ("run raw", "raw"),
+        ("run Raw:hi", "Raw:hi"),
+        ("run hi-x", "hi-x"),
+        ("run budget=5", "budget=5"),
+        ("run run", "run"),
+    ] {
+        accepted(&rt, alloc, line, plain(ImageWord::Elf(name)))?;
+    }
+    let mut want = plain(ImageWord::Elf("6"));
+    want.budget = Some(5);
+    accepted(&rt, alloc, "run --budget 5 6", want)?;
+    accepted(&rt, alloc, "run --budget=5 6", want)?;
     Ok(())
 }
 
@@ -138,16 +159,20 @@ fn a_file_is_one_word(rt: HostRuntime) -> Result<(), Fail> {
 
 #[test]
 fn the_first_bad_word_is_told(rt: HostRuntime) -> Result<(), Fail> {
+    let alloc = rt.alloc();
     let table = [
         ("alone raw:hi", 0),
         ("--budget 5 raw:hi", 0),
-        ("run hi", 1),
-        ("run raw:", 1),
         ("run -x", 1),
-        ("run budget 5 raw:hi", 1),
+        ("run -", 1),
+        ("run -raw:hi", 1),
+        ("run budget 5 raw:hi", 2),
         ("run --vlen 256 raw:hi", 1),
         ("run --budget5 raw:hi", 1),
-        ("run --budget 5 hi", 3),
+        ("run --budget 5 -x", 3),
+        ("run hi more", 2),
+        ("run hi raw:hi", 2),
+        ("run raw: hi", 2),
         ("run raw:hi more", 2),
         ("run raw:hi --budget 5", 2),
         ("run --budget 5 --budget 6 raw:hi", 3),
@@ -155,7 +180,10 @@ fn the_first_bad_word_is_told(rt: HostRuntime) -> Result<(), Fail> {
         ("run --budget=5 --budget", 2),
         ("run --window 1 --lanes=1 --window 1 raw:hi", 4),
     ];
-    refused(&rt, rt.alloc(), table.as_slice())?;
+    refused(&rt, alloc, table.as_slice())?;
+    let mut words = words_of(alloc, "run")?;
+    words.push(String::new(alloc))?;
+    assert_eq!(rt; read(words.as_slice()), Err(1));
     Ok(())
 }
 
@@ -194,6 +222,7 @@ fn numbers_lie_in_their_ranges(rt: HostRuntime) -> Result<(), Fail> {
         ("run --budget 5x raw:hi", 2),
         ("run --budget= raw:hi", 1),
         ("run --budget raw:hi", 2),
+        ("run --budget hi", 2),
     ];
     refused(&rt, rt.alloc(), table.as_slice())?;
     Ok(())

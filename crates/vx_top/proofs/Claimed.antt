@@ -1,26 +1,34 @@
 -- What each way through the call claims.
 use Rattle.std.proofs.Common.{◌≡◌, ℕ, List, refl, sym, ap, subst, inl, inr, ◌≤◌, arith}
-use Rattle.std.specs.Prelude.{Result, Ok, Err, IfOk, MatchResult}
+use Rattle.std.specs.Prelude.{Result, Ok, Err, Option, Some, None, option_map, IfOk, MatchResult}
+use Rattle.std.specs.Option.{option_or}
 use Rattle.vx_base.specs.Shelf.{ShelfState, AsksFor, Reads}
 use Rattle.vx_base.specs.Sink.{SinkState}
 use Rattle.vx_base.specs.declared.options.Options.{Options}
-use Rattle.vx_flat.specs.Image.{raw_image}
+use Rattle.vx_elf.specs.Reading.{elf_fault, segments_in}
+use Rattle.vx_elf.specs.declared.fault.ElfFault.{ElfFault}
+use Rattle.vx_image.specs.Images.{raw_fault, image_fault}
+use Rattle.vx_image.specs.declared.fault.ImageFault.{ImageFault}
 use Rattle.vx_machine.specs.Claim.{Devices, Headline, Claims, HasRun, status_of}
+use Rattle.vx_machine.specs.ImageFiles.{file_fault, image_of_file}
 use Rattle.vx_machine.specs.Machine.{Settings}
+use Rattle.vx_read.specs.Images.{image_of}
 use Rattle.vx_read.specs.Read.{AreRead}
 use Rattle.vx_read.specs.declared.run_words.RunWords.{RunWords}
 use Rattle.vx_system.specs.Runs.{settings_of}
 use Rattle.vx_top.proofs.Settled.{AreFor, settled}
 use Rattle.vx_source.specs.Listing.{listing}
-use Rattle.vx_top.specs.Files.{RanFile, RefusesFile, Refuses, TellsRefusal, TellsReport, TellsListing, fault_of}
+use Rattle.vx_top.specs.Files.{RanFile, RefusesFile, RefusesRead, Refuses, TellsRefusal, TellsReport, TellsListing}
 use Rattle.vx_top.specs.Noted.{Noted, NotesWant, Answers}
-use Rattle.vx_top.specs.declared.refusal.FileFault.TheVariants.{TooLong, RawLength, TooManyPages}
 use Rattle.vx_top.specs.declared.refusal.Refusal.{Refusal}
 use Rattle.vx_top.specs.declared.refusal.Refusal.TheVariants as refusal
 use Rattle.vx_top.specs.declared.run.Report.{Report}
 use Rattle.vx_words.specs.Notes.{file_limit, bad_words}
-use Rattle.vx_words.specs.Words.{AskFor, AskForFile, AreOutside, IsFirstBad}
+use Rattle.vx_words.specs.Words.{ImageFile, name_of, AskFor, AskForFile, AskToRun, AreOutside, IsFirstBad}
 use Rattle.vx_words.specs.Words.Command.{Run, Dis}
+use Rattle.vx_words.specs.Words.ImageFile.{Raw, Elf}
+use Rattle.vx_words.specs.declared.file_fault.FileFault.{FileFault}
+use Rattle.vx_words.specs.declared.file_fault.FileFault.TheVariants.{TooLong, BadElf, NoImage}
 use Rattle.vx_words.specs.declared.status.Status.{Status}
 use Rattle.vx_words.specs.declared.status.Status.TheVariants.{Done, Usage, ReadFault, BadImage, WriteFault, Spent, NoMemory}
 
@@ -38,21 +46,21 @@ Claims-usage words shelf out note note' index answer bad (inr want) =
     rw want.0 (record { shelf = inl (record { files = refl; asked = refl; faults = stays }); out = inl refl; note = want.1 })
 
 -- the words ask for the run that was made
-pub HasRun-from : (words : List (List ℕ)) (run : RunWords) (read : AreRead words run) (options : Options) → AreFor options run → (before after : Devices) (report : Report) (status : Status) → status ≡ status_of report.stop → RanFile (settings_of options) before.shelf after.shelf run.name.now report → HasRun words before after status report.text
+pub HasRun-from : (words : List (List ℕ)) (run : RunWords) (read : AreRead words run) (options : Options) → AreFor options run → (before after : Devices) (report : Report) (status : Status) → status ≡ status_of report.stop → RanFile (settings_of options) before.shelf after.shelf (image_of run.image) report → HasRun words before after status report.text
 HasRun-from words run read options for before after report status answers ran = record {
   givens = read.givens;
-  name = run.name.now;
+  file = image_of run.image;
   asks = read.asked;
   bytes = ran.bytes;
   read = ran.read;
-  is_image = ran.ran.is_image;
+  is_image = ran.is_image;
   stop = report.stop;
-  headline = subst (λ (s : Settings). Headline s (raw_image ran.bytes) report.stop report.text) (settled words run read options for) ran.ran.headline;
+  headline = subst (λ (s : Settings). Headline s (image_of_file (image_of run.image) ran.bytes) report.stop report.text) (settled words run read options for) ran.ran;
   answers = answers;
 }
 
 -- the run was made, and its report was told
-pub Claims-report : (words : List (List ℕ)) (run : RunWords) (read : AreRead words run) (options : Options) (for : AreFor options run) (before after : Devices) (report : Report) (answer : Status) → RanFile (settings_of options) before.shelf after.shelf run.name.now report → TellsReport before.out after.out before.note after.note report answer → Claims words before after answer
+pub Claims-report : (words : List (List ℕ)) (run : RunWords) (read : AreRead words run) (options : Options) (for : AreFor options run) (before after : Devices) (report : Report) (answer : Status) → RanFile (settings_of options) before.shelf after.shelf (image_of run.image) report → TellsReport before.out after.out before.note after.note report answer → Claims words before after answer
 Claims-report words run read options for before after report Usage ran told = elim told [ ]
 Claims-report words run read options for before after report ReadFault ran told = elim told [ ]
 Claims-report words run read options for before after report BadImage ran told = elim told [ ]
@@ -88,37 +96,64 @@ Claims-unread words name ask before after refusal.ReadFault answer out cause (in
     rw told.0 (record { name = name; asks = ask; read = cause; out = out; note = told.1 })
 Claims-unread words name ask before after refusal.ReadFault answer out cause (inr want) =
     HasNoMemory-asked words name ask before after cause.asks out answer want
-Claims-unread words name ask before after (refusal.BadImage TooLong) answer out cause (inl told) =
-    rw told.0 (record { name = name; fault = fault_of TooLong; cause = (ask, cause); out = out; note = told.1 })
-Claims-unread words name ask before after (refusal.BadImage TooLong) answer out cause (inr want) =
+Claims-unread words name ask before after (refusal.BadFile TooLong) answer out cause (inl told) =
+    rw told.0 (record { name = name; fault = TooLong; cause = (ask, cause); out = out; note = told.1 })
+Claims-unread words name ask before after (refusal.BadFile TooLong) answer out cause (inr want) =
     HasNoMemory-asked words name ask before after cause.asks out answer want
-Claims-unread words name ask before after (refusal.BadImage (RawLength n)) answer out cause told = elim cause [ ]
-Claims-unread words name ask before after (refusal.BadImage (TooManyPages n)) answer out cause told = elim cause [ ]
+Claims-unread words name ask before after (refusal.BadFile (BadElf fault)) answer out cause told = elim cause [ ]
+Claims-unread words name ask before after (refusal.BadFile (NoImage fault)) answer out cause told = elim cause [ ]
 Claims-unread words name ask before after refusal.NoMemory answer out (inl unasked) told =
     rw told.0 (record { shelf = inl unasked; out = inl out; note = told.1 })
 Claims-unread words name ask before after refusal.NoMemory answer out (inr asks) told =
     HasNoMemory-asked words name ask before after asks out answer told
 
 -- the words ask for a run of their file
-run_asks : (words : List (List ℕ)) (run : RunWords) (read : AreRead words run) → AskForFile words run.name.now
-run_asks words run read = (Run read.givens run.name.now, read.asked, refl)
+run_asks : (words : List (List ℕ)) (run : RunWords) (read : AreRead words run) → AskForFile words (name_of (image_of run.image))
+run_asks words run read = (Run read.givens (image_of run.image), read.asked, refl)
+
+-- a file's bytes are never too long
+mapped_to_no_image : (found : Option ImageFault) → option_map NoImage found ≡ Some TooLong → ⊥
+mapped_to_no_image None is = cc
+mapped_to_no_image (Some fault) is = cc
+
+mapped_to_either : (bad : Option ElfFault) (found : Option ImageFault) → option_or (option_map BadElf bad) (option_map NoImage found) ≡ Some TooLong → ⊥
+mapped_to_either None found is = mapped_to_no_image found is
+mapped_to_either (Some fault) found is = cc
+
+never_too_long : (file : ImageFile) (bytes : List ℕ) → file_fault file bytes ≡ Some TooLong → ⊥
+never_too_long (Raw name) bytes is = mapped_to_no_image (raw_fault bytes) is
+never_too_long (Elf name) bytes is = mapped_to_either (elf_fault bytes) (image_fault (segments_in bytes)) is
+
+-- the file was read, and its bytes have a fault
+has_fault : (words : List (List ℕ)) (before after : Devices) (file : ImageFile) (bytes : List ℕ) (fault : FileFault) → AskToRun words file → Reads before.shelf after.shelf (name_of file) file_limit bytes → file_fault file bytes ≡ Some fault → HasFault words before after (name_of file) fault
+has_fault words before after file bytes TooLong asks read found = absurd (never_too_long file bytes found)
+has_fault words before after file bytes (BadElf fault) asks read found =
+    record { file = file; named = refl; asks = asks; bytes = bytes; read = read; found = found }
+has_fault words before after file bytes (NoImage fault) asks read found =
+    record { file = file; named = refl; asks = asks; bytes = bytes; read = read; found = found }
+
+-- the file was read, its bytes are refused, and that was told
+Claims-unloaded : (words : List (List ℕ)) (run : RunWords) (read : AreRead words run) (before after : Devices) (refusal : Refusal) (answer : Status) → after.out ≡ before.out → RefusesRead before.shelf after.shelf (image_of run.image) refusal → TellsRefusal before.note after.note (name_of (image_of run.image)) refusal answer → Claims words before after answer
+Claims-unloaded words run read before after refusal.ReadFault answer out cause told = elim cause.2 [ ]
+Claims-unloaded words run read before after (refusal.BadFile fault) answer out cause (inl told) =
+    rw told.0 (record {
+      name = name_of (image_of run.image);
+      fault = fault;
+      cause = has_fault words before after (image_of run.image) cause.0 fault (read.givens, read.asked) cause.1 cause.2;
+      out = out;
+      note = told.1;
+    })
+Claims-unloaded words run read before after (refusal.BadFile fault) answer out cause (inr want) =
+    HasNoMemory-asked words (name_of (image_of run.image)) (run_asks words run read) before after cause.1.asks out answer want
+Claims-unloaded words run read before after refusal.NoMemory answer out cause told =
+    HasNoMemory-asked words (name_of (image_of run.image)) (run_asks words run read) before after cause.1.asks out answer told
 
 -- the image gave no report, and that was told
-pub Claims-refusal : (words : List (List ℕ)) (run : RunWords) (read : AreRead words run) (before after : Devices) (refusal : Refusal) (answer : Status) → after.out ≡ before.out → Refuses before.shelf after.shelf run.name.now refusal → TellsRefusal before.note after.note run.name.now refusal answer → Claims words before after answer
-Claims-refusal words run read before after refusal.ReadFault answer out cause told =
-    Claims-unread words run.name.now (run_asks words run read) before after refusal.ReadFault answer out cause told
-Claims-refusal words run read before after (refusal.BadImage TooLong) answer out cause told =
-    Claims-unread words run.name.now (run_asks words run read) before after (refusal.BadImage TooLong) answer out cause told
-Claims-refusal words run read before after (refusal.BadImage (RawLength n)) answer out cause (inl told) =
-    rw told.0 (record { name = run.name.now; fault = fault_of (RawLength n); cause = ((read.givens, read.asked), cause); out = out; note = told.1 })
-Claims-refusal words run read before after (refusal.BadImage (RawLength n)) answer out cause (inr want) =
-    HasNoMemory-asked words run.name.now (run_asks words run read) before after cause.1.asks out answer want
-Claims-refusal words run read before after (refusal.BadImage (TooManyPages n)) answer out cause (inl told) =
-    rw told.0 (record { name = run.name.now; fault = fault_of (TooManyPages n); cause = ((read.givens, read.asked), cause); out = out; note = told.1 })
-Claims-refusal words run read before after (refusal.BadImage (TooManyPages n)) answer out cause (inr want) =
-    HasNoMemory-asked words run.name.now (run_asks words run read) before after cause.1.asks out answer want
-Claims-refusal words run read before after refusal.NoMemory answer out cause told =
-    Claims-unread words run.name.now (run_asks words run read) before after refusal.NoMemory answer out cause told
+pub Claims-refusal : (words : List (List ℕ)) (run : RunWords) (read : AreRead words run) (before after : Devices) (refusal : Refusal) (answer : Status) → after.out ≡ before.out → Refuses before.shelf after.shelf (image_of run.image) refusal → TellsRefusal before.note after.note (name_of (image_of run.image)) refusal answer → Claims words before after answer
+Claims-refusal words run read before after refusal answer out (inl cause) told =
+    Claims-unread words (name_of (image_of run.image)) (run_asks words run read) before after refusal answer out cause told
+Claims-refusal words run read before after refusal answer out (inr cause) told =
+    Claims-unloaded words run read before after refusal answer out cause told
 
 -- the file was read, and its listing was told
 pub Claims-listing : (words : List (List ℕ)) (name : List ℕ) (asks : AskFor words (Dis name)) (before after : Devices) (bytes : List ℕ) (answer : Status) → Reads before.shelf after.shelf name file_limit bytes → TellsListing before.out after.out before.note after.note (listing bytes) answer → Claims words before after answer

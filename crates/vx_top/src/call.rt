@@ -5,16 +5,17 @@ ghost use Rattle.vx_words.specs.Words.{AskFor};
 ghost use Rattle.vx_words.specs.Words.Command.{Dis};
 ghost use Rattle.vx_top.specs.Ranges.{AreInRange};
 
+use crate::load::{name_of, read_file};
 use crate::notes;
 use crate::options::options_for;
-use crate::run::{read_file, run_file};
+use crate::run::run_file;
 use crate::tell::{tell, tell_listing, tell_refusal, tell_report};
 use std::alloc::Global;
 use vx_base::{Shelf, Sink};
 use vx_read::{Asked, RunWords, read};
 use vx_words::Status;
 
-/// Runs the raw image that words ask for. What the answer says holds for whatever words ask for it.
+/// Runs the image that words ask for. What the answer says holds for whatever words ask for it.
 fn run<F: Shelf, K: Sink, N: Sink>(
     alloc: Global,
     run: &RunWords,
@@ -26,9 +27,9 @@ fn run<F: Shelf, K: Sink, N: Sink>(
     ensures { (words : List (List ℕ)) → AreRead words run.now → Claims words (record { shelf = F.state shelf.old; out = K.state out.old; note = N.state note.old }) (record { shelf = F.state shelf.new; out = K.state out.new; note = N.state note.new }) result }
 {
     let options = options_for(run);
-    match run_file(alloc, run.name, &options, shelf) {
+    match run_file(alloc, run.image, &options, shelf) {
         Ok(report) => tell_report(&report, out, note),
-        Err(refusal) => tell_refusal(alloc, run.name, refusal, note),
+        Err(refusal) => tell_refusal(alloc, name_of(run.image), refusal, note),
     }
 }
 

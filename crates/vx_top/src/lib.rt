@@ -5,7 +5,9 @@
 #![tactic(auto)]
 
 mod call;
+mod fault_notes;
 mod file_shelf;
+mod load;
 mod notes;
 mod options;
 mod out_sink;

@@ -1,26 +1,17 @@
 ghost use Rattle.std.specs.Prelude.{◌≡◌};
 
 use std::alloc::AllocError;
-use vx_flat::ImageFault;
+use vx_elf::ElfFault;
+use vx_image::ImageFault;
+use vx_words::FileFault;
 
-/// Why a file is no image.
-#[derive(Clone, Copy, PartialEq, Eq, Debug)]
-pub enum FileFault {
-    /// It has more bytes than the limit.
-    TooLong,
-    /// It has so many bytes, which are none or no whole words.
-    RawLength(u64),
-    /// It fills so many pages, the stack's among them, which are too many.
-    TooManyPages(u64),
-}
-
-/// Why a file gives no report.
+/// Why a file gives no text.
 #[derive(Clone, Copy, PartialEq, Eq, Debug)]
 pub enum Refusal {
     /// It could not be read.
     ReadFault,
-    /// It is no image.
-    BadImage(FileFault),
+    /// It has a fault.
+    BadFile(FileFault),
     /// Memory was wanting.
     NoMemory,
 }
@@ -35,16 +26,28 @@ impl From<AllocError> for Refusal {
     }
 }
 
-impl From<ImageFault> for Refusal {
-    ghost use Rattle.vx_top.specs.Files.{refusal_of};
+impl From<ElfFault> for Refusal {
+    ghost use Rattle.vx_top.specs.Files.{refusal_of_elf};
 
-    ghost from_gives = { λ fault refusal. refusal ≡ refusal_of fault };
+    ghost from_gives = { λ fault refusal. refusal ≡ refusal_of_elf fault };
+
+    fn from(fault: ElfFault) -> Refusal {
+        match fault {
+            ElfFault::NoMemory => Refusal::NoMemory,
+            _ => Refusal::BadFile(FileFault::BadElf(fault)),
+        }
+    }
+}
+
+impl From<ImageFault> for Refusal {
+    ghost use Rattle.vx_top.specs.Files.{refusal_of_image};
+
+    ghost from_gives = { λ fault refusal. refusal ≡ refusal_of_image fault };
 
     fn from(fault: ImageFault) -> Refusal {
         match fault {
-            ImageFault::RawLength(count) => Refusal::BadImage(FileFault::RawLength(count)),
-            ImageFault::TooManyPages(count) => Refusal::BadImage(FileFault::TooManyPages(count)),
             ImageFault::NoMemory => Refusal::NoMemory,
+            _ => Refusal::BadFile(FileFault::NoImage(fault)),
         }
     }
 }

@@ -3,6 +3,7 @@ ghost use Rattle.vx_top.specs.Files.{TellsRefusal, TellsReport, TellsListing};
 ghost use Rattle.vx_source.specs.Listing.{listing};
 ghost use Rattle.vx_top.specs.Noted.{Noted, NotesWant};
 
+use crate::fault_notes::bad_image;
 use crate::notes;
 use crate::refusal::Refusal;
 use crate::run::Report;
@@ -49,11 +50,7 @@ pub fn tell_refusal<N: Sink>(alloc: Global, name: &str, refusal: Refusal, note: 
 {
     match refusal {
         Refusal::ReadFault => tell(note, Status::ReadFault, notes::read_failed(alloc, name)),
-        Refusal::BadImage(fault) => tell(
-            note,
-            Status::BadImage,
-            notes::bad_image(alloc, name, fault),
-        ),
+        Refusal::BadFile(fault) => { tell(note, Status::BadImage, bad_image(alloc, name, fault)) }
         Refusal::NoMemory => tell_want(note),
     }
 }

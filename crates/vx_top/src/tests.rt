@@ -4,6 +4,7 @@ use crate::{Status, vexec};
 use std::alloc::{AllocError, Global};
 use std::test::Fail;
 use vx_base::{Bytes, MemShelf, MemSink, NamedFile, Text};
+use vx_elf::{Program, write_elf};
 
 /// The forty bytes of a program that writes `hi` and a newline and exits with 0.
 const HI: [u8; 40] = [
@@ -125,6 +126,49 @@ fn options_are_heeded(rt: HostRuntime) -> Result<(), Fail> {
 }
 
 #[test]
+fn elf_files_are_run(rt: HostRuntime) -> Result<(), Fail> {
+    let alloc = rt.alloc();
+    let program = Program {
+        entry: 0x10000,
+        code: Bytes::of(Vec::from_slice(alloc, HI.as_slice())?),
+        vars: Bytes::of(Vec::new(alloc)),
+        zero: 0,
+    };
+    let file = write_elf(alloc, &program)?;
+    let mut shelf = shelf_of(alloc, "hi", Vec::from_slice(alloc, file.slice())?)?;
+    let done = call(alloc, "run hi", &mut shelf)?;
+    assert_eq!(rt; done.status, Status::Done);
+    assert_eq!(rt; done.out.bytes(), HI_REPORT.as_bytes());
+    Ok(())
+}
+
+#[test]
+fn elf_files_are_refused(rt: HostRuntime) -> Result<(), Fail> {
+    let alloc = rt.alloc();
+    let mut compressed = vec![in alloc; 0u8; 64]?;
+    compressed[..8].copy_from_slice(&[0x7f, 0x45, 0x4c, 0x46, 2, 1, 1, 0]);
+    compressed[16] = 2;
+    compressed[18] = 243;
+    compressed[48] = 1;
+    let table = [
+        (
+            Vec::new(alloc),
+            "vexec: e: short: 64 bytes needed, 0 there\n",
+        ),
+        (vec![in alloc; 0u8; 64]?, "vexec: e: not ELF\n"),
+        (compressed, "vexec: e: compressed code\n"),
+    ];
+    for (bytes, note) in table {
+        let mut shelf = shelf_of(alloc, "e", bytes)?;
+        let refused = call(alloc, "run e", &mut shelf)?;
+        assert_eq!(rt; refused.status, Status::BadImage, "{note}");
+        assert_eq!(rt; refused.note.bytes(), note.as_bytes());
+        assert_eq!(rt; refused.out.bytes().len(), 0);
+    }
+    Ok(())
+}
+
+#[test]
 fn words_outside_the_grammar_are_refused(rt: HostRuntime) -> Result<(), Fail> {
     let alloc = rt.alloc();
     let table = [
@@ -133,7 +177,7 @@ fn words_outside_the_grammar_are_refused(rt: HostRuntime) -> Result<(), Fail> {
         ("run", "1"),
         ("run --lanes 3 raw:hi", "2"),
         ("run --budget 1 --budget=1 raw:hi", "3"),
-        ("run --budget 1 hi", "3"),
+        ("run --budget 1 -hi", "3"),
         ("run raw:hi raw:hi", "2"),
     ];
     for (words, index) in table {

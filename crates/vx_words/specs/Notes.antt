@@ -1,21 +1,44 @@
 -- The notes: one line for each status that has one. This project's own.
 use Rattle.std.specs.Prelude.{ℕ, List, [], ◌∷◌, codes, decimal}
+use Rattle.vx_base.specs.Hex.{hex_digits}
+use Rattle.vx_elf.specs.declared.fault.ElfFault.{ElfFault}
+use Rattle.vx_elf.specs.declared.fault.ElfFault.TheVariants as elf
+use Rattle.vx_elf.specs.declared.fault.ElfFault.TheVariants.{Short, NotElf, NotRiscv, NotExec, Compressed, BadTable, Interp, BadRange, Overlap}
+use Rattle.vx_image.specs.declared.fault.ImageFault.{ImageFault}
+use Rattle.vx_image.specs.declared.fault.ImageFault.TheVariants as image
+use Rattle.vx_image.specs.declared.fault.ImageFault.TheVariants.{RawLength, WriteExec, TooManyPages, EntryNotCode}
 use Rattle.vx_words.specs.Lines.{line}
+use Rattle.vx_words.specs.declared.file_fault.FileFault.{FileFault}
+use Rattle.vx_words.specs.declared.file_fault.FileFault.TheVariants.{TooLong, BadElf, NoImage}
 
 -- how many bytes a file may have: 32 MiB
 abbrev pub file_limit : ℕ
 file_limit = 33554432
 
--- why a file is no image: it has more bytes than the limit, or its bytes have a fault
-pub data FileFault : Type 0 where
-  TooLong : FileFault
-  RawLength : (count : ℕ) → FileFault
-  TooManyPages : (count : ℕ) → FileFault
+-- want of memory is no fault of a file, and has a note of its own
+abbrev pub elf_words : ElfFault → List (List ℕ)
+elf_words (Short need there) = codes "short: " ∷ decimal need ∷ codes " bytes needed, " ∷ decimal there ∷ codes " there" ∷ []
+elf_words NotElf = codes "not ELF" ∷ []
+elf_words (NotRiscv machine) = codes "machine " ∷ decimal machine ∷ []
+elf_words (NotExec kind) = codes "type " ∷ decimal kind ∷ []
+elf_words Compressed = codes "compressed code" ∷ []
+elf_words (BadTable place) = codes "bad table at " ∷ decimal place ∷ []
+elf_words (Interp index) = codes "interpreter at header " ∷ decimal index ∷ []
+elf_words (BadRange index) = codes "bad range at header " ∷ decimal index ∷ []
+elf_words (Overlap one other) = codes "segments " ∷ decimal one ∷ codes " and " ∷ decimal other ∷ codes " overlap" ∷ []
+elf_words elf.NoMemory = []
+
+abbrev pub image_words : ImageFault → List (List ℕ)
+image_words (RawLength n) = codes "raw length " ∷ decimal n ∷ []
+image_words (WriteExec page) = codes "page " ∷ decimal page ∷ codes " is writable and executable" ∷ []
+image_words (TooManyPages n) = decimal n ∷ codes " pages" ∷ []
+image_words (EntryNotCode entry) = codes "entry 0x" ∷ hex_digits 16 entry ∷ codes " is not code" ∷ []
+image_words image.NoMemory = []
 
 abbrev pub fault_words : FileFault → List (List ℕ)
 fault_words TooLong = codes "longer than " ∷ decimal file_limit ∷ codes " bytes" ∷ []
-fault_words (RawLength n) = codes "raw length " ∷ decimal n ∷ []
-fault_words (TooManyPages n) = decimal n ∷ codes " pages" ∷ []
+fault_words (BadElf fault) = elf_words fault
+fault_words (NoImage fault) = image_words fault
 
 -- a note is a line that begins with the program's name
 abbrev pub note : List (List ℕ) → List ℕ

@@ -1,6 +1,7 @@
 use Rattle.std.proofs.Common.{◌≡◌, ℕ, ◌+◌, ◌-◌, length, map, string_bytes, subst, arith}
 use Rattle.std.proofs.lemmas.List.{length-map}
 use Rattle.vx_read.specs.Settings.{given_to}
+use Rattle.vx_read.specs.Images.{image_of}
 use Rattle.vx_read.specs.Numbers.{nothing}
 use Rattle.vx_read.specs.Behind.{AreBadBehind}
 use Rattle.vx_read.proofs.Leads.{lead_on, image_read}
@@ -14,8 +15,8 @@ loop-setting-preserved c =
 pub returns-in-Image-clause-asks : goal.returns-in-Image-clause-asks
 returns-in-Image-clause-asks c =
     let numbers = c.loop-setting.numbers in
-    let name = c.in-Image.name.now in
-    read_whole (map string_bytes c.args.words.now) numbers name c.run_of.result (c.loop-setting.invariant.read numbers name (image_read numbers (map string_bytes c.loop-setting.rest.now) name c.in-Image.ensures)) c.run_of.ensures
+    let image = image_of c.in-Image.image in
+    read_whole (map string_bytes c.args.words.now) numbers image c.run_of.result (c.loop-setting.invariant.read numbers image (image_read numbers (map string_bytes c.loop-setting.rest.now) image c.in-Image.ensures)) c.run_of.ensures
 
 pub returns-in-Bad-clause-bad : goal.returns-in-Bad-clause-bad
 returns-in-Bad-clause-bad c =
