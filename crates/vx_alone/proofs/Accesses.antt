@@ -14,7 +14,8 @@ use Rattle.vx_image.specs.Pages.{Memory}
 use Rattle.vx_flat.specs.Memory.{page_of, is_canonical, permits, byte_at, bytes_at, next_address, all_permit, put_byte, put_bytes}
 use Rattle.vx_flat.specs.Service.{is_readable}
 use Rattle.vx_scalar.specs.Operands.{is_access_width}
-use Rattle.vx_alone.specs.Pages.{pages_of, entry_at, IsRising, IsPlaceOf, IsGrantedAt, Lacks}
+use Rattle.vx_image.specs.Kept.{pages_of, entry_at, IsRising, IsPlaceOf, Lacks}
+use Rattle.vx_alone.specs.Granted.{IsGrantedAt}
 use Rattle.vx_alone.proofs.Numbers.{put_next}
 use Rattle.vx_alone.proofs.Pages.{page_absent, permissions_at, byte_in_page, put_in_page}
 

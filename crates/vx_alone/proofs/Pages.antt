@@ -7,7 +7,7 @@ use Rattle.std.specs.Option.{option_map_or}
 use Rattle.vx_base.specs.declared.perm.PageEntry.{PageEntry}
 use Rattle.vx_image.specs.Pages.{Memory, MappedPage, page_numbered}
 use Rattle.vx_flat.specs.Memory.{with_byte}
-use Rattle.vx_alone.specs.Pages.{pages_by, entry_at, IsRising, IsPlaceOf, Lacks}
+use Rattle.vx_image.specs.Kept.{pages_by, entry_at, IsRising, IsPlaceOf, Lacks}
 
 -- a page that no entry has is not mapped
 pub page_absent : (size : ℕ) (entries : List PageEntry) (bytes : List ℕ) (page : ℕ) → Lacks entries page → page_numbered page (pages_by size entries bytes) ≡ None

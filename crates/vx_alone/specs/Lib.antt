@@ -1,4 +1,4 @@
+pub mod Granted
 pub mod Operands
-pub mod Pages
 pub mod Turns
 pub mod Writing

@@ -1,10 +1,9 @@
-ghost use Rattle.std.specs.Prelude.{◌≡◌, ◌<◌, ◌≤◌, ◌%◌, ◌^◌, ◌++◌, length, None, IfSome, IsTrue};
-ghost use Rattle.vx_alone.specs.Turns.{Boots, turn_of};
+ghost use Rattle.std.specs.Prelude.{◌≡◌, ◌<◌, ◌≤◌, ◌%◌, ◌^◌, ◌++◌, length, None, IfOk, IsTrue};
+ghost use Rattle.vx_alone.specs.Turns.{turn_of};
 ghost use Rattle.vx_flat.specs.Process.{after, begun, stepped};
 ghost use Rattle.vx_alone.specs.Operands.{IsAligned, IsPerformable};
 ghost use Rattle.vx_base.specs.Numbers.{signed};
 ghost use Rattle.vx_decode.specs.Decoded.{decoded};
-ghost use Rattle.vx_image.specs.Images.{raw_fault, raw_image};
 ghost use Rattle.vx_flat.specs.Service.{service, answered, write};
 ghost use Rattle.vx_flat.specs.State.{following, register};
 ghost use Rattle.vx_flat.specs.Scalar.{effect};
@@ -17,11 +16,12 @@ use crate::arch::Arch;
 use crate::memory::Memory;
 use crate::service::write;
 use crate::turn::Turn;
-use std::alloc::Global;
+use std::alloc::{AllocError, Global};
 use std::marker::Model;
 use vx_base::Fault;
 use vx_decode::{Instr, decode};
-use vx_flat::{Effect, End, ImageFault, Upcoming};
+use vx_flat::{Effect, End, Upcoming};
+use vx_image::Image;
 use vx_rows::Class;
 use vx_scalar::{Regs, access_width, loaded, scalar, scalar_address};
 
@@ -51,15 +51,22 @@ impl Model for Alone {
 }
 
 impl Alone {
-    /// The machine of a raw image before its first instruction. It takes all the memory of the run here. `RawLength`
-    /// and `TooManyPages` come exactly where the bytes have that fault.
-    pub fn boot(alloc: Global, bytes: &[u8]) -> Result<Alone, ImageFault>
-        ensures { Boots bytes.now result }
+    /// The machine of an image before its first instruction. It takes all the memory of the run here.
+    #[tactic(auto, unfolding(vx_flat::specs::Boot::booted))]
+    pub fn boot(alloc: Global, image: &Image) -> Result<Alone, AllocError>
+        ensures { IfOk result (λ m. m ≡ begun image.now) }
     {
-        match raw_fault(bytes) {
-            Some(fault) => Err(fault),
-            None => begun(alloc, bytes).ok_or(ImageFault::NoMemory),
-        }
+        let arch = Arch {
+            regs: Regs::first(),
+            pc: image.entry(),
+        };
+        Ok(Alone {
+            arch,
+            memory: Memory::of(alloc, image)?,
+            output: Vec::with_capacity(alloc, 1 << 20)?,
+            count: 0,
+            over: None,
+        })
     }
 
     /// What stands at the pc.
@@ -333,47 +340,6 @@ impl Alone {
             vstart: 0,
         }));
     }
-}
-
-/// The fault of bytes as a raw image, where they have one.
-fn raw_fault(bytes: &[u8]) -> Option<ImageFault>
-    ensures { result ≡ raw_fault bytes.now }
-{
-    let length = bytes.len() as u64;
-    if length == 0 || length % 4 != 0 {
-        return Some(ImageFault::RawLength(length));
-    }
-    let pages = length.div_ceil(4096) + 16;
-    if pages > 4096 {
-        Some(ImageFault::TooManyPages(pages))
-    } else {
-        None
-    }
-}
-
-/// The machine of bytes without a fault; `None` where memory is wanting.
-#[tactic(auto, unfolding(vx_flat::specs::Boot::booted, vx_flat::specs::Image::raw_image))]
-fn begun(alloc: Global, bytes: &[u8]) -> Option<Alone>
-    requires { raw_fault bytes.now ≡ None }
-    ensures { IfSome result (λ m. m ≡ begun (raw_image bytes.now)) }
-{
-    let Ok(memory) = Memory::of_raw(alloc, bytes) else {
-        return None;
-    };
-    let Ok(output) = Vec::with_capacity(alloc, 1 << 20) else {
-        return None;
-    };
-    let arch = Arch {
-        regs: Regs::first(),
-        pc: 0x10000,
-    };
-    Some(Alone {
-        arch,
-        memory,
-        output,
-        count: 0,
-        over: None,
-    })
 }
 
 /// What a word means, as what comes next.

@@ -1,36 +1,22 @@
-ghost use Rattle.std.specs.Prelude.{◌≡◌, ℕ, ◌+◌, ◌-◌, ◌*◌, ◌<◌, ◌≤◌, ◌%◌, ◌^◌, ◌++◌, List, take, drop, length, min, true, false, None, IfOk, OnOk, IsTrue, MatchOption, vec_len, vec_capacity, if◌then◌else◌};
+ghost use Rattle.std.specs.Prelude.{◌≡◌, ℕ, ◌+◌, ◌-◌, ◌*◌, ◌<◌, ◌≤◌, ◌%◌, ◌^◌, ◌++◌, List, take, drop, length, min, true, false, None, IfOk, IsTrue, MatchOption, vec_len, vec_capacity, if◌then◌else◌};
 ghost use Rattle.vx_base.specs.Numbers.{from_little_endian, little_endian};
 ghost use Rattle.vx_base.specs.declared.machine.Want.TheVariants as want;
-ghost use Rattle.vx_image.specs.Images.{raw_fault, raw_image};
 ghost use Rattle.vx_flat.specs.Memory.{permits, bytes_at, all_permit, put_bytes, is_canonical};
 ghost use Rattle.vx_flat.specs.Service.{is_readable};
-ghost use Rattle.vx_alone.specs.Pages.{pages_of, IsRising, IsPlaceOf, IsGrantedAt, IsKept, Lacks, run_of};
+ghost use Rattle.vx_image.specs.Kept.{pages_of, IsRising, IsPlaceOf, IsKept, Lacks};
+ghost use Rattle.vx_alone.specs.Granted.{IsGrantedAt};
 ghost use Rattle.vx_scalar.specs.Operands.{is_access_width};
 
 use std::alloc::{AllocError, Global};
 use std::marker::Model;
-use vx_base::{PageEntry, Perm, Want};
+use vx_base::{PageEntry, Want};
+use vx_image::{Image, place_of};
 
 /// How many bytes a page has.
 const PAGE_LEN: usize = 4096;
 
 /// The same, as a step of addresses.
 const PAGE_BYTES: u64 = PAGE_LEN as u64;
-
-/// The page at which a raw image begins.
-const IMAGE_PAGE: u64 = 0x10;
-
-/// The first page of the stack.
-const STACK_PAGE: u64 = 0x3ff_fff0;
-
-/// How many pages the stack has.
-const STACK_PAGES: usize = 16;
-
-/// The permissions of an image's pages: R and X.
-const IMAGE_PERM: Perm = Perm { bits: 5 };
-
-/// The permissions of the stack's pages: R and W.
-const STACK_PERM: Perm = Perm { bits: 6 };
 
 /// The memory of a process, by page: the entries of the mapped pages in rising order, and the bytes of all of them. It
 /// keeps the places of the last page that was aimed at and of the last that was loaded from or stored to, at which a search
@@ -45,7 +31,7 @@ pub struct Memory {
 
 impl Model for Memory {
     ghost use Rattle.vx_image.specs.Pages.{Memory as FlatMemory};
-    ghost use Rattle.vx_alone.specs.Pages.{pages_of, IsKept};
+    ghost use Rattle.vx_image.specs.Kept.{pages_of, IsKept};
 
     ghost Value = { FlatMemory };
 
@@ -55,22 +41,14 @@ impl Model for Memory {
 }
 
 impl Memory {
-    /// The memory of a raw image that has no fault. Takes all the memory that it ever needs.
-    pub fn of_raw(alloc: Global, image: &[u8]) -> Result<Memory, AllocError>
-        requires { raw_fault image.now ≡ None }
-        ensures { IfOk result (λ memory. memory ≡ (raw_image image.now).pages) }
+    /// The memory of an image. Takes all the memory that it ever needs.
+    pub fn of(alloc: Global, image: &Image) -> Result<Memory, AllocError>
+        ensures { IfOk result (λ memory. memory ≡ image.now.pages) }
     {
-        let count = image.len().div_ceil(PAGE_LEN);
-        let size = PAGE_LEN * (count + STACK_PAGES);
-        let mut bytes = Vec::with_capacity(alloc, size)?;
-        bytes.extend_from_slice(image)?;
-        bytes.resize(size, 0)?;
-        let mut entries = Vec::with_capacity(alloc, count + STACK_PAGES)?;
-        push_run(&mut entries, IMAGE_PAGE, count, IMAGE_PERM)?;
-        push_run(&mut entries, STACK_PAGE, STACK_PAGES, STACK_PERM)?;
+        let contents = image.contents();
         Ok(Memory {
-            entries,
-            bytes,
+            entries: Vec::from_slice(alloc, contents.entries)?,
+            bytes: Vec::from_slice(alloc, contents.bytes)?,
             code: 0,
             data: 0,
         })
@@ -96,7 +74,7 @@ impl Memory {
     pub fn aim(&mut self, address: u64)
         ensures { self.new ≡ self.old }
     {
-        if let Some(place) = place_of(&self.entries, self.code, address / PAGE_BYTES) {
+        if let Some(place) = place_near(&self.entries, self.code, address / PAGE_BYTES) {
             self.code = place;
         }
     }
@@ -153,25 +131,6 @@ impl Memory {
     {
         append_readable(&self.entries, &self.bytes, address, count, out);
     }
-}
-
-/// Appends so many entries with these permissions, for the pages from that number on.
-fn push_run(
-    entries: &mut Vec<PageEntry>,
-    number: u64,
-    count: usize,
-    perm: Perm,
-) -> Result<(), AllocError>
-    requires { number + count < 2 ^ 64 }
-    ensures { OnOk result (entries.new.items ≡ entries.old.items ++ run_of count number perm) }
-{
-    for i in 0..count {
-        entries.push(PageEntry {
-            page: number + i as u64,
-            perm,
-        })?;
-    }
-    Ok(())
 }
 
 /// Whether each of so many bytes from an address on can be read. Looks once at each page.
@@ -255,7 +214,7 @@ fn granting(entries: &[PageEntry], first: usize, address: u64, want: Want) -> Op
     if !is_canonical(address) {
         return None;
     }
-    let Some(place) = place_of(entries, first, address / PAGE_BYTES) else {
+    let Some(place) = place_near(entries, first, address / PAGE_BYTES) else {
         return None;
     };
     if entries[place].perm.grants(want) {
@@ -274,32 +233,27 @@ fn is_canonical(address: u64) -> bool
 }
 
 /// The place of the entry of a page, where one has it. Looks at `first` before it searches.
-fn place_of(entries: &[PageEntry], first: usize, page: u64) -> Option<usize>
+fn place_near(entries: &[PageEntry], first: usize, page: u64) -> Option<usize>
     requires { IsRising entries.now }
     ensures { MatchOption result (Lacks entries.now page) (IsPlaceOf entries.now page) }
 {
     if first < entries.len() && entries[first].page == page {
         return Some(first);
     }
-    searched(entries, page)
-}
-
-/// The place of the entry of a page, where one has it, by a search.
-fn searched(entries: &[PageEntry], page: u64) -> Option<usize>
-    requires { IsRising entries.now }
-    ensures { MatchOption result (Lacks entries.now page) (IsPlaceOf entries.now page) }
-{
-    entries.binary_search_by_key(&page, |entry| entry.page).ok()
+    place_of(entries, page)
 }
 
 #[cfg(test)]
 mod tests {
     use super::*;
     use std::test::Fail;
+    use vx_base::Perm;
+    use vx_image::raw_image;
 
     #[test]
     fn keeps_an_image_and_its_stack(rt: HostRuntime) -> Result<(), Fail> {
-        let mut memory = Memory::of_raw(rt.alloc(), &[0x13, 0x05, 0x10, 0x02, 0x73, 0, 0, 0])?;
+        let image = raw_image(rt.alloc(), &[0x13, 0x05, 0x10, 0x02, 0x73, 0, 0, 0])?;
+        let mut memory = Memory::of(rt.alloc(), &image)?;
         assert_eq!(rt; memory.word(0x10000), Some(0x0210_0513));
         assert_eq!(rt; memory.word(0x10004), Some(0x73));
         assert_eq!(rt; memory.word(0x10ffc), Some(0));
@@ -370,7 +324,8 @@ mod tests {
 
     #[test]
     fn reads_what_was_stored_across_pages(rt: HostRuntime) -> Result<(), Fail> {
-        let mut memory = Memory::of_raw(rt.alloc(), &[0x73, 0, 0, 0])?;
+        let image = raw_image(rt.alloc(), &[0x73, 0, 0, 0])?;
+        let mut memory = Memory::of(rt.alloc(), &image)?;
         for (address, byte, stored) in [
             (0x3f_ffff_0fff, 7, true),
             (0x3f_ffff_1000, 9, true),

@@ -5,7 +5,8 @@ use crate::turn::Turn;
 use std::alloc::Global;
 use std::test::Fail;
 use vx_base::Fault;
-use vx_flat::{End, ImageFault};
+use vx_flat::End;
+use vx_image::raw_image;
 
 /// The program `write(1, 0x10024, 3)`, then `exit(0)`, and the text "hi\n" with one more byte.
 const HI: [u8; 40] = [
@@ -47,7 +48,7 @@ fn after(alloc: Global, words: &[u32], pages: usize) -> Result<Alone, Fail>
         bytes.extend_from_slice(&word.to_le_bytes())?;
     }
     bytes.resize(4096 * pages, 0)?;
-    let mut machine = Alone::boot(alloc, &bytes)?;
+    let mut machine = Alone::boot(alloc, &raw_image(alloc, &bytes)?)?;
     for _ in words {
         machine.step();
     }
@@ -56,7 +57,7 @@ fn after(alloc: Global, words: &[u32], pages: usize) -> Result<Alone, Fail>
 
 #[test]
 fn writes_a_text_and_exits(rt: HostRuntime) -> Result<(), Fail> {
-    let mut machine = Alone::boot(rt.alloc(), &HI)?;
+    let mut machine = Alone::boot(rt.alloc(), &raw_image(rt.alloc(), &HI)?)?;
     for _ in 0..8 {
         assert_eq!(rt; machine.over(), None);
         let next = machine.upcoming();
@@ -233,21 +234,6 @@ fn refuses_writes(rt: HostRuntime) -> Result<(), Fail> {
         let machine = after(rt.alloc(), &words, pages)?;
         assert_eq!(rt; machine.arch().regs.read(10).cast_signed(), answer);
         assert_eq!(rt; machine.output().len() as i64, answer.max(0));
-    }
-    Ok(())
-}
-
-#[test]
-fn boots_whole_words_on_4096_pages(rt: HostRuntime) -> Result<(), Fail> {
-    for (length, fault) in [
-        (0, Some(ImageFault::RawLength(0))),
-        (2, Some(ImageFault::RawLength(2))),
-        (4081 * 4096, Some(ImageFault::TooManyPages(4097))),
-        (4080 * 4096, None),
-        (4, None),
-    ] {
-        let bytes = vec![in rt.alloc(); 0u8; length]?;
-        assert_eq!(rt; Alone::boot(rt.alloc(), &bytes).err(), fault);
     }
     Ok(())
 }

@@ -1,14 +1,11 @@
--- What a system is seen as, and what its boot and its run do. This project's own.
-use Rattle.std.specs.Prelude.{◌≡◌, ℕ, ◌+◌, ◌≤◌, ◌<◌, ◌^◌, Bool, true, false, List, Some, None, Result, Ok, Err}
+-- What a system is seen as, and what its run does. This project's own.
+use Rattle.std.specs.Prelude.{◌≡◌, ℕ, ◌+◌, ◌≤◌, ◌<◌, ◌^◌, Bool, true, false, Some, None}
 use Rattle.vx_base.specs.declared.options.Options.{Options}
-use Rattle.vx_image.specs.Images.{raw_image, raw_fault}
 use Rattle.vx_flat.specs.Process.{Process, stepped_on}
 use Rattle.vx_flat.specs.Step.{upcoming}
-use Rattle.vx_image.specs.declared.fault.ImageFault.{ImageFault}
-use Rattle.vx_image.specs.declared.fault.ImageFault.TheVariants.{RawLength, TooManyPages, NoMemory}
 use Rattle.vx_flat.specs.declared.upcoming.Upcoming.{Upcoming}
 use Rattle.vx_flat.specs.declared.upcoming.Upcoming.TheVariants.{Denied, Illegal, Instruction}
-use Rattle.vx_machine.specs.Machine.{Machine, Settings, booted_machine, rounds, stop_of}
+use Rattle.vx_machine.specs.Machine.{Machine, Settings, rounds, stop_of}
 use Rattle.vx_machine.specs.declared.stop.Stop.{Stop}
 use Rattle.vx_rows.specs.Table.{class_of}
 use Rattle.vx_rows.specs.declared.row.Class.{Class}
@@ -30,13 +27,6 @@ settings_of options = record {
 -- the machine alone has changed, to this one
 abbrev pub with_machine : SystemState → Machine → SystemState
 with_machine s m = record { settings = s.settings; machine = m }
-
--- what the boot of raw bytes answers: the system of the image, or the bytes' fault
-abbrev pub Boots : List ℕ → Settings → Result SystemState ImageFault → Type 0
-Boots bytes settings (Ok s) = (raw_fault bytes ≡ None) × (s ≡ record { settings = settings; machine = booted_machine (raw_image bytes) })
-Boots bytes settings (Err NoMemory) = Unit {0}
-Boots bytes settings (Err (RawLength n)) = raw_fault bytes ≡ Some (RawLength n)
-Boots bytes settings (Err (TooManyPages n)) = raw_fault bytes ≡ Some (TooManyPages n)
 
 -- the process took steps, no more of them than the cycles from one to the other
 pub record StepsTo (before after : Process) (from to : ℕ) : Type 0 where

@@ -1,8 +1,8 @@
 ghost use Rattle.std.specs.Prelude.{◌≡◌, ◌+◌, ◌-◌, ◌≤◌, ◌<◌, ◌^◌, ◌∷◌, [], IfOk, None, unwrap_or};
 ghost use Rattle.vx_machine.specs.Accounts.{account_of};
-ghost use Rattle.vx_machine.specs.Machine.{after_pause, passed, round, served, taken};
+ghost use Rattle.vx_machine.specs.Machine.{after_pause, booted_machine, passed, round, served, taken};
 ghost use Rattle.vx_machine.specs.Report.{report};
-ghost use Rattle.vx_system.specs.Runs.{Boots, IsAsking, Runs, StepsTo, settings_of, with_machine};
+ghost use Rattle.vx_system.specs.Runs.{IsAsking, Runs, StepsTo, settings_of, with_machine};
 ghost use Rattle.vx_times.specs.Episode.{episode};
 
 use crate::episode::{run_episode, serve};
@@ -10,8 +10,9 @@ use crate::report::{ProcessReport, push_process, push_total};
 use crate::timing::{SERVICE, SWITCH};
 use std::alloc::{AllocError, Global};
 use std::marker::Model;
-use vx_alone::{Alone, ImageFault};
+use vx_alone::Alone;
 use vx_base::{Bytes, Options};
+use vx_image::Image;
 use vx_machine::Stop;
 use vx_times::Pause;
 
@@ -46,13 +47,12 @@ impl Model for System {
 }
 
 impl System {
-    /// The system of a raw image, at cycle 0. It takes all the memory of the run here. `RawLength` and `TooManyPages`
-    /// come exactly where the bytes have that fault.
-    pub fn boot(alloc: Global, bytes: &[u8], options: &Options) -> Result<System, ImageFault>
+    /// The system of an image, at cycle 0. It takes all the memory of the run here.
+    pub fn boot(alloc: Global, image: &Image, options: &Options) -> Result<System, AllocError>
         requires window { options.now.window ≡ 1 }
-        ensures { Boots bytes.now (settings_of options.now) result }
+        ensures { IfOk result (λ s. s ≡ record { settings = settings_of options.now; machine = booted_machine image.now }) }
     {
-        let process = Alone::boot(alloc, bytes)?;
+        let process = Alone::boot(alloc, image)?;
         Ok(System {
             process,
             options: *options,

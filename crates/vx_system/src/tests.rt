@@ -4,6 +4,7 @@ use crate::System;
 use std::alloc::Global;
 use std::test::Fail;
 use vx_base::{Bytes, Options};
+use vx_image::raw_image;
 
 /// A program that writes `hi` and a newline and exits with 0.
 const HI: [u32; 10] = [
@@ -141,7 +142,8 @@ fn report_of(alloc: Global, words: &[u32], budget: u64) -> Result<Bytes, Fail> {
     for word in words {
         bytes.extend_from_slice(&word.to_le_bytes())?;
     }
-    let mut system = System::boot(alloc, &bytes, &options(budget))?;
+    let image = raw_image(alloc, &bytes)?;
+    let mut system = System::boot(alloc, &image, &options(budget))?;
     let stop = system.run();
     Ok(system.report(alloc, stop)?)
 }

@@ -1,7 +1,7 @@
 -- What was looked at goes on with a page that can be read, or ends with one that can't.
 use Rattle.std.proofs.Common.{sym, arith}
 use Rattle.vx_base.specs.declared.machine.Want.TheVariants.{Load}
-use Rattle.vx_alone.specs.Pages.{pages_of}
+use Rattle.vx_image.specs.Kept.{pages_of}
 use Rattle.vx_alone.proofs.Accesses.{all_more, not_all}
 use Rattle.vx_alone.proofs.memory.all_readable.Goals as goal
 

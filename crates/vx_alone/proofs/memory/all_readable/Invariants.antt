@@ -2,7 +2,7 @@
 use Rattle.std.proofs.Common.{◌≡◌, ℕ, ◌-◌, ◌≤◌, List, true}
 use Rattle.vx_base.specs.declared.machine.Want.TheVariants.{Load}
 use Rattle.vx_flat.specs.Memory.{all_permit}
-use Rattle.vx_alone.specs.Pages.{pages_of}
+use Rattle.vx_image.specs.Kept.{pages_of}
 use Rattle.vx_alone.proofs.memory.all_readable.Given as goal
 
 abbrev pub invariant-loop-done : goal.invariant-loop-done

@@ -4,7 +4,7 @@ use Rattle.std.proofs.lemmas.List.{length-take-le}
 use Rattle.std.proofs.lemmas.Bool.{false≢true}
 use Rattle.vx_base.specs.declared.machine.Want.TheVariants.{Load}
 use Rattle.vx_flat.specs.Memory.{bytes_at}
-use Rattle.vx_alone.specs.Pages.{pages_of}
+use Rattle.vx_image.specs.Kept.{pages_of}
 use Rattle.vx_alone.proofs.Accesses.{readable_parts, one_of_all, bytes_more}
 use Rattle.vx_alone.proofs.memory.append_readable.Goals as goal
 

@@ -1,7 +1,7 @@
 -- The bytes so far have been appended, and there is room for the rest.
 use Rattle.std.proofs.Common.{◌≡◌, ◌+◌, ◌-◌, ◌≤◌, ◌++◌, vec_len, vec_capacity}
 use Rattle.vx_flat.specs.Memory.{bytes_at}
-use Rattle.vx_alone.specs.Pages.{pages_of}
+use Rattle.vx_image.specs.Kept.{pages_of}
 use Rattle.vx_alone.proofs.memory.append_readable.Given as goal
 
 abbrev pub invariant-loop-done : goal.invariant-loop-done

@@ -4,7 +4,7 @@ use Rattle.std.proofs.lemmas.List.{with_items_is}
 use Rattle.vx_base.specs.Numbers.{little_endian}
 use Rattle.vx_image.specs.Pages.{Memory}
 use Rattle.vx_flat.specs.Memory.{put_bytes, page_of}
-use Rattle.vx_alone.specs.Pages.{pages_of}
+use Rattle.vx_image.specs.Kept.{pages_of}
 use Rattle.vx_alone.proofs.Numbers.{length-little_endian}
 use Rattle.vx_alone.proofs.Accesses.{put_on_page, ends_on_page}
 use Rattle.vx_alone.proofs.memory.Memory.store.Goals as goal
