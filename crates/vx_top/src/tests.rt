@@ -98,6 +98,28 @@ fn images_are_run_and_reported(rt: HostRuntime) -> Result<(), Fail> {
 }
 
 #[test]
+fn a_program_of_any_word_ends(rt: HostRuntime) -> Result<(), Fail> {
+    let alloc = rt.alloc();
+    let opcodes = [
+        0x03, 0x0f, 0x13, 0x17, 0x1b, 0x23, 0x33, 0x37, 0x3b, 0x63, 0x67, 0x6f, 0x73, 0x00,
+    ];
+    let mut bits = 2026u32;
+    for opcode in opcodes {
+        for _ in 0..24 {
+            bits = bits.wrapping_mul(1_664_525).wrapping_add(1_013_904_223);
+            let word = bits & 0xffff_ff80 | opcode;
+            let code = Vec::from_slice(alloc, &word.to_le_bytes())?;
+            let mut shelf = shelf_of(alloc, "word", code)?;
+            let run = call(alloc, "run --budget 1000 raw:word", &mut shelf)?;
+            let ended = run.status == Status::Done || run.status == Status::Spent;
+            assert!(rt; ended, "{word}");
+            assert_eq!(rt; run.note.bytes().len(), 0);
+        }
+    }
+    Ok(())
+}
+
+#[test]
 fn options_are_heeded(rt: HostRuntime) -> Result<(), Fail> {
     let alloc = rt.alloc();
     let table = [
