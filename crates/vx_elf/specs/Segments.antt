@@ -6,11 +6,11 @@ use Rattle.vx_elf.specs.declared.segment.Segment.{Segment}
 abbrev pub is_segment_permission : ℕ → Bool
 is_segment_permission bits = bits == 1 || bits == 4 || bits == 5 || bits == 6 || bits == 7
 
--- m addresses from a on and n addresses from b on have one in common, where neither are none
+-- m addresses from a on and n addresses from b on have one in common, where neither range is empty
 abbrev pub ranges_meet : ℕ → ℕ → ℕ → ℕ → Bool
 ranges_meet a m b n = nat_lt a (b + n) && nat_lt b (a + m)
 
--- the last address that a segment may take is below the stack's
+-- where the memory of segments ends at the latest: the stack begins there
 abbrev pub segments_end : ℕ
 segments_end = 0x3fffff0000
 

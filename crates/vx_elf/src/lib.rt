@@ -1,6 +1,6 @@
 //! ELF files: what a file of a RISC-V program says of its memory, read and written.
 //!
-//! It stands on `vx_base` and the kit's `byteorder`. To the crates above it gives `read_elf`, whose answer is the entry
+//! It stands on `vx_base`, and on the kit's `byteorder`, `bitflags` and `thiserror`. To the crates above it gives `read_elf`, whose answer is the entry
 //! and the segments that the bytes hold or the first fault that they have, and `write_elf`, whose bytes are read again
 //! as the program's segments.
 #![tactic(auto)]

@@ -1,4 +1,4 @@
--- The boot of an image. This project's own, but for the stack pointer, x2, which is that of the RISC-V psABI.
+-- The boot of an image. This project's own; that x2 is the stack pointer is the RISC-V psABI's.
 use Rattle.std.specs.Prelude.{ℕ, List, [], ◌∷◌, replicate}
 use Rattle.vx_image.specs.Pages.{Image}
 use Rattle.vx_flat.specs.State.{Flat}

@@ -1,5 +1,6 @@
 -- A process on its way: its flat state, how many instructions it has completed, and how it ended. This project's own.
-use Rattle.std.specs.Prelude.{ℕ, zero, suc, ◌+◌, ◌-◌, ◌^◌, min, Option, Some, None}
+use Rattle.std.specs.Prelude.{ℕ, zero, suc, Option, Some, None}
+use Rattle.vx_base.specs.Faults.{one_more}
 use Rattle.vx_image.specs.Pages.{Image}
 use Rattle.vx_flat.specs.Boot.{booted}
 use Rattle.vx_flat.specs.State.{Flat}
@@ -19,14 +20,10 @@ pub record Process : Type 0 where
 abbrev pub begun : Image → Process
 begun image = record { state = booted image; count = 0; over = None }
 
--- a count that rises by one, and stands still at its type's end
-abbrev pub risen : ℕ → ℕ
-risen n = min (n + 1) (2 ^ 64 - 1)
-
 -- the process after an outcome of its step; an exiting instruction completes, a faulting one doesn't
 abbrev pub after : Process → Outcome → Process
-after p (Next s) = record p { state = s; count = risen p.count }
-after p (Exited code) = record p { count = risen p.count; over = Some (end.Exited code) }
+after p (Next s) = record p { state = s; count = one_more p.count }
+after p (Exited code) = record p { count = one_more p.count; over = Some (end.Exited code) }
 after p (Faulted fault s) = record p { state = s; over = Some (end.Faulted fault) }
 
 -- the process after a step; one that is over stays as it is

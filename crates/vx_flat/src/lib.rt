@@ -1,8 +1,8 @@
 //! What a program computes: the flat machine, which runs one process alone, an instruction at a time, on memory by page.
 //!
 //! The crate is its definitions (`specs/`): what the operations do, memory, the boot of an image, the step, the run and
-//! its end. It stands on the images of `vx_image`, on `vx_decode` and on the arithmetic of `vx_bits`. The crates above cite it; `vx_alone` is its plain
-//! program. Its functions have no code: each states a law of the definitions.
+//! its end. It stands on the images of `vx_image`, on `vx_decode` and on the arithmetic of `vx_bits`. The crates above
+//! cite it; `vx_alone` is its plain program. Its functions have no code: each states a law of the definitions.
 #![tactic(auto)]
 
 mod effect;

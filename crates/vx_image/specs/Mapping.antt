@@ -32,7 +32,7 @@ unfoldable pub bytes_from : List Segment → ℕ → ℕ → List ℕ
 bytes_from segments address zero = []
 bytes_from segments address (suc count) = byte_of segments address ∷ bytes_from segments (address + 1) count
 
--- the first page of the stack, which has all pages from there to the last, 0x3ffffff
+-- the stack's first page; it has all pages from there to the last, 0x3ffffff
 abbrev pub stack_page : ℕ
 stack_page = 0x3fffff0
 

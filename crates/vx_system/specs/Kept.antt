@@ -1,4 +1,4 @@
--- What the fields of a system keep: the clock's bounds, and that one instruction is in flight at a time.
+-- What the fields of a system keep: the clock's bounds, and that one instruction is in flight at a time. This project's own.
 use Rattle.std.specs.Prelude.{◌≡◌, ◌≤◌, ◌^◌}
 use Rattle.std.specs.Option.{ForSome}
 use Rattle.vx_system.specs.declared.system.System.TheInside.{Inside}

@@ -1,5 +1,5 @@
 -- The cycles of an instruction that is alone in flight, from its issue on. This project's own; that they are those of the
--- timing equations is proved.
+-- timing equations is proved. What never retires, or never faults, has some number that nothing asks for.
 use Rattle.std.specs.Prelude.{ℕ, ◌+◌}
 use Rattle.vx_flat.specs.declared.upcoming.Upcoming.{Upcoming}
 use Rattle.vx_flat.specs.declared.upcoming.Upcoming.TheVariants.{Denied, Illegal, Instruction}

@@ -1,4 +1,4 @@
--- The account that a process's report tells.
+-- The account that a process's report tells. This project's own.
 use Rattle.vx_machine.specs.Accounts.{Account, standing_of}
 use Rattle.vx_system.specs.declared.report.ProcessReport.{ProcessReport}
 

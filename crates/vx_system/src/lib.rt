@@ -1,7 +1,7 @@
 //! The system: one process, its slices and services, its cycles and the report.
 //!
 //! It stands on `vx_alone`, whose flat machine it steps, and on the definitions of `vx_machine`. To the crate above it gives
-//! `System`: what its run did to the process, how it stopped, and the report's bytes.
+//! `System`: what its run did to the process, how it stopped, and the report's bytes; and `stop_word`.
 #![tactic(auto)]
 
 mod episode;
@@ -11,5 +11,6 @@ mod system;
 mod tests;
 mod timing;
 
+pub use report::stop_word;
 pub use system::System;
 pub use vx_machine::Stop;

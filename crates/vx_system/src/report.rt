@@ -144,6 +144,16 @@ pub fn push_process(
     Ok(())
 }
 
+/// The report's word for how a run stopped.
+pub fn stop_word(stop: Stop) -> &'static str
+    ensures { result.now ≡ stop_word stop }
+{
+    match stop {
+        Stop::Done => "done",
+        Stop::Spent => "spent",
+    }
+}
+
 /// Appends the line that ends the report.
 pub fn push_total(
     alloc: Global,
@@ -153,10 +163,8 @@ pub fn push_total(
 ) -> Result<(), AllocError>
     ensures { OnOk result (text.new.items ≡ text.old.items ++ line (codes "total " ∷ decimal total ∷ codes " cycles, " ∷ stop_word stop ∷ [])) }
 {
-    let end = match stop {
-        Stop::Done => format!(in alloc; "total {total} cycles, done\n")?,
-        Stop::Spent => format!(in alloc; "total {total} cycles, spent\n")?,
-    };
+    let word = stop_word(stop);
+    let end = format!(in alloc; "total {total} cycles, {word}\n")?;
     text.extend_from_slice(end.as_bytes())?;
     Ok(())
 }

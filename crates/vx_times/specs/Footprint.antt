@@ -16,7 +16,7 @@ use Rattle.vx_flat.specs.declared.effect.Effect.TheVariants.{Value, Next, Misali
 use Rattle.vx_flat.specs.declared.upcoming.Upcoming.{Upcoming}
 use Rattle.vx_flat.specs.declared.upcoming.Upcoming.TheVariants.{Denied, Illegal, Instruction}
 
--- an access: the element that it belongs to, its physical address, and whether it is let through
+-- an access: the element that it belongs to, its address, whether it is a store, and whether it is let through
 pub record Access : Type 0 where
   pub element : ℕ
   pub address : ℕ

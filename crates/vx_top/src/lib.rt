@@ -1,7 +1,8 @@
 //! The program's call `vexec`, and the real shelf and sink that the program hands in.
 //!
-//! It stands on `vx_system`, which runs the machine, and on the definitions of `vx_words` and `vx_machine`. To the program
-//! it gives `vexec`, whose contract is the whole claim, and `FileShelf` and `OutSink`.
+//! It stands on `vx_read`, which reads the words, `vx_elf` and `vx_image`, which make images of files, `vx_system`, which
+//! runs the machine, `vx_dis`, which lists, and on the definitions of `vx_words` and `vx_machine`. To the program it gives
+//! `vexec`, whose contract is the whole claim, and `FileShelf` and `OutSink`.
 #![tactic(auto)]
 
 mod call;

@@ -1,10 +1,13 @@
 ghost use Rattle.std.specs.Prelude.{◌<◌};
 
+use crate::fault_notes::bad_image;
 use crate::{Status, vexec};
 use std::alloc::{AllocError, Global};
 use std::test::Fail;
 use vx_base::{Bytes, MemShelf, MemSink, NamedFile, Text};
-use vx_elf::{Program, write_elf};
+use vx_elf::{ElfFault, Program, write_elf};
+use vx_image::ImageFault;
+use vx_words::FileFault;
 
 /// The forty bytes of a program that writes `hi` and a newline and exits with 0.
 const HI: [u8; 40] = [
@@ -209,6 +212,68 @@ fn words_outside_the_grammar_are_refused(rt: HostRuntime) -> Result<(), Fail> {
         assert_eq!(rt; refused.status, Status::Usage, "{words}");
         assert_eq!(rt; refused.note.bytes(), want.as_bytes(), "{words}");
         assert_eq!(rt; refused.out.bytes().len(), 0);
+    }
+    Ok(())
+}
+
+#[test]
+fn each_fault_has_its_note(rt: HostRuntime) -> Result<(), Fail> {
+    let alloc = rt.alloc();
+    let table = [
+        (FileFault::TooLong, "vexec: f: longer than 33554432 bytes\n"),
+        (
+            FileFault::BadElf(ElfFault::Short(1 << 70, 7)),
+            "vexec: f: short: 1180591620717411303424 bytes needed, 7 there\n",
+        ),
+        (FileFault::BadElf(ElfFault::NotElf), "vexec: f: not ELF\n"),
+        (
+            FileFault::BadElf(ElfFault::NotRiscv(62)),
+            "vexec: f: machine 62\n",
+        ),
+        (
+            FileFault::BadElf(ElfFault::NotExec(3)),
+            "vexec: f: type 3\n",
+        ),
+        (
+            FileFault::BadElf(ElfFault::Compressed),
+            "vexec: f: compressed code\n",
+        ),
+        (
+            FileFault::BadElf(ElfFault::BadTable(54)),
+            "vexec: f: bad table at 54\n",
+        ),
+        (
+            FileFault::BadElf(ElfFault::Interp(1)),
+            "vexec: f: interpreter at header 1\n",
+        ),
+        (
+            FileFault::BadElf(ElfFault::BadRange(2)),
+            "vexec: f: bad range at header 2\n",
+        ),
+        (
+            FileFault::BadElf(ElfFault::Overlap(1, 3)),
+            "vexec: f: segments 1 and 3 overlap\n",
+        ),
+        (
+            FileFault::NoImage(ImageFault::RawLength(6)),
+            "vexec: f: raw length 6\n",
+        ),
+        (
+            FileFault::NoImage(ImageFault::WriteExec(16)),
+            "vexec: f: page 16 is writable and executable\n",
+        ),
+        (
+            FileFault::NoImage(ImageFault::TooManyPages(4097)),
+            "vexec: f: 4097 pages\n",
+        ),
+        (
+            FileFault::NoImage(ImageFault::EntryNotCode(0x10002)),
+            "vexec: f: entry 0x0000000000010002 is not code\n",
+        ),
+    ];
+    for (fault, note) in table {
+        let text = bad_image(alloc, "f", fault)?;
+        assert_eq!(rt; text.as_bytes(), note.as_bytes());
     }
     Ok(())
 }

@@ -1,6 +1,6 @@
 //! The words of the command line, what they ask for, and what the program answers: its statuses and its notes.
 //!
-//! The crate is its definitions (`specs/`). It stands on `vx_image`, whose faults have notes. `vx_read`, `vx_machine` and
+//! The crate is its definitions (`specs/`). It stands on `vx_elf` and `vx_image`, whose faults have notes. `vx_read`, `vx_machine` and
 //! `vx_top` cite it.
 #![tactic(auto)]
 

@@ -10,7 +10,7 @@ pub enum Status {
     Usage,
     /// A file could not be read.
     ReadFault,
-    /// A file is no image.
+    /// A file is no image, or is too long.
     BadImage,
     /// The output could not be written; a prefix of it was.
     WriteFault,
