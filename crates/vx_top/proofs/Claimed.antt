@@ -9,7 +9,7 @@ use Rattle.vx_elf.specs.Reading.{elf_fault, segments_in}
 use Rattle.vx_elf.specs.declared.fault.ElfFault.{ElfFault}
 use Rattle.vx_image.specs.Images.{raw_fault, image_fault}
 use Rattle.vx_image.specs.declared.fault.ImageFault.{ImageFault}
-use Rattle.vx_machine.specs.Claim.{Devices, Headline, Claims, HasRun, status_of}
+use Rattle.vx_machine.specs.Claim.{Devices, Headline, Claims, HasFault, HasRun, status_of}
 use Rattle.vx_machine.specs.ImageFiles.{file_fault, image_of_file}
 use Rattle.vx_machine.specs.Machine.{Settings}
 use Rattle.vx_read.specs.Images.{image_of}

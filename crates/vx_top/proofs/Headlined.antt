@@ -1,7 +1,7 @@
 -- What a run gives is its headline.
 use Rattle.std.proofs.Common.{◌≡◌, ℕ, List, [], ◌∷◌, ◌<◌, ◌-◌, ◌^◌, subst, arith}
 use Rattle.std.specs.Prelude.{Some}
-use Rattle.vx_flat.specs.Image.{Image}
+use Rattle.vx_image.specs.Pages.{Image}
 use Rattle.vx_flat.specs.Process.{begun, stepped_on}
 use Rattle.vx_machine.specs.Accounts.{account_of, IsTrueOf}
 use Rattle.vx_machine.specs.Claim.{Headline}

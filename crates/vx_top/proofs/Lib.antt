@@ -1,4 +1,3 @@
 pub mod Claimed
 pub mod Headlined
-pub mod Loaded
 pub mod Settled

@@ -29,7 +29,7 @@ pub fn read_file<F: Shelf>(alloc: Global, name: &str, shelf: &mut F) -> Result<B
 
 /// The name of the file that an image is in.
 pub fn name_of<'a>(file: ImageWord<'a>) -> &'a str
-    ensures { result.now ≡ name_of (image_of file) }
+    ensures { result.now ≡ name_of (image_of file.entry) }
 {
     match file {
         ImageWord::Raw(name) => name,
@@ -56,8 +56,8 @@ fn elf(alloc: Global, name: &str, bytes: &[u8]) -> Result<Image, Refusal>
 
 /// The image in a file's bytes.
 pub fn load(alloc: Global, file: ImageWord, bytes: &[u8]) -> Result<Image, Refusal>
-    ensures image { IfOk result (IsImageIn (image_of file) bytes.now) }
-    ensures refused { IfErr result (RefusesBytes (image_of file) bytes.now) }
+    ensures image { IfOk result (IsImageIn (image_of file.entry) bytes.now) }
+    ensures refused { IfErr result (RefusesBytes (image_of file.entry) bytes.now) }
 {
     match file {
         ImageWord::Raw(name) => raw(alloc, name, bytes),

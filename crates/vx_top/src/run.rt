@@ -39,8 +39,8 @@ pub fn run_file<F: Shelf>(
     shelf: &mut F,
 ) -> Result<Report, Refusal>
     requires window { options.now.window ≡ 1 }
-    ensures ran { IfOk result (RanFile (settings_of options.now) (F.state shelf.old) (F.state shelf.new) (image_of file)) }
-    ensures refused { IfErr result (Refuses (F.state shelf.old) (F.state shelf.new) (image_of file)) }
+    ensures ran { IfOk result (RanFile (settings_of options.now) (F.state shelf.old) (F.state shelf.new) (image_of file.entry)) }
+    ensures refused { IfErr result (Refuses (F.state shelf.old) (F.state shelf.new) (image_of file.entry)) }
 {
     let bytes = read_file(alloc, name_of(file), shelf)?;
     let image = load(alloc, file, bytes.slice())?;

@@ -1,5 +1,8 @@
 use Rattle.std.proofs.Common.{refl}
 use Rattle.vx_machine.specs.Claim.{Devices}
+use Rattle.vx_read.specs.Images.{image_of}
+use Rattle.vx_words.specs.Words.{name_of}
+use Rattle.vx_top.specs.Files.{TellsRefusal}
 use Rattle.vx_top.proofs.Claimed.{Claims-report, Claims-refusal}
 use Rattle.vx_top.proofs.Settled.{AreFor}
 use Rattle.vx_top.proofs.call.run.Goals as goal
@@ -22,4 +25,5 @@ pub returns-in-Err : goal.returns-in-Err
 returns-in-Err g c words read =
     let before : Devices = record { shelf = g.F.Shelf.state c.args.shelf.now; out = g.K.Sink.state c.args.out.now; note = g.N.Sink.state c.args.note.now } in
     let after : Devices = record { shelf = g.F.Shelf.state c.run_file.new.shelf; out = g.K.Sink.state c.args.out.now; note = g.N.Sink.state c.tell_refusal.new.note } in
-    Claims-refusal words c.args.run.now read before after c.in-Err.refusal c.tell_refusal.result refl c.in-Err.ensures.refused c.tell_refusal.ensures
+    let told : TellsRefusal before.note after.note (name_of (image_of c.args.run.now.image)) c.in-Err.refusal c.tell_refusal.result = rw (← c.name_of.ensures) c.tell_refusal.ensures in
+    Claims-refusal words c.args.run.now read before after c.in-Err.refusal c.tell_refusal.result refl c.in-Err.ensures.refused told
