@@ -1,7 +1,7 @@
 -- The permissions of the pages that are built, and their order.
-use Rattle.std.proofs.Common.{◌≡◌, ℕ, zero, suc, ◌+◌, ◌%◌, ◌<◌, ◌≤◌, ◌⊎◌, Bool, true, false, ◌||◌, ◌&&◌, if◌then◌else◌, eqb, bit_or, inl, inr, List, [], ◌∷◌, ◌++◌, length, get_or, find, filter, fold, Option, Some, None, option_map, refl, sym, ap, subst, ◌∙◌, append-nil, arith}
+use Rattle.std.proofs.Common.{◌≡◌, ℕ, zero, suc, ◌%◌, ◌<◌, ◌⊎◌, Bool, true, false, ◌||◌, ◌&&◌, if◌then◌else◌, eqb, bit_or, inl, inr, List, [], ◌∷◌, ◌++◌, length, get_or, find, filter, fold, Option, Some, None, option_map, refl, sym, subst, ◌∙◌, append-nil, arith}
 use Rattle.std.specs.List.{list_any, All, AllPairs}
-use Rattle.std.specs.Option.{option_to_list, option_or}
+use Rattle.std.specs.Option.{option_or}
 use Rattle.std.proofs.lemmas.Bool.{cases_lt, cases_Bool, eqb-true}
 use Rattle.std.proofs.lemmas.List.Elements.{All-push}
 use Rattle.std.proofs.lemmas.List.Quantifiers.{all_pairs_push}
@@ -10,9 +10,9 @@ use Rattle.vx_base.specs.declared.perm.PageEntry.{PageEntry}
 use Rattle.vx_elf.specs.declared.segment.Segment.{Segment}
 use Rattle.vx_elf.specs.Segments.{IsSegmentList, is_segment_permission}
 use Rattle.vx_image.specs.Mapping.{meets_page, page_permissions, stack_page}
-use Rattle.vx_image.specs.Building.{entry_of_stack, entry_of_segments, mapped_entry, entries_below}
+use Rattle.vx_image.specs.Building.{entry_of_stack, entry_of_segments, entries_below}
 use Rattle.vx_image.specs.Images.{is_write_exec, is_code, write_exec_fault, count_fault, entry_fault, pages_fault}
-use Rattle.vx_image.specs.Kept.{pages_of, entry_at, IsRising}
+use Rattle.vx_image.specs.Kept.{pages_of, IsRising}
 use Rattle.vx_image.specs.declared.fault.ImageFault.{ImageFault}
 use Rattle.vx_image.specs.declared.fault.ImageFault.TheVariants.{WriteExec, EntryNotCode}
 use Rattle.vx_image.proofs.Entries.{at_stack, at_segments, at_nothing}

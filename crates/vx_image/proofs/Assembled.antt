@@ -1,5 +1,5 @@
 -- An image put together of the entries and bytes of its pages.
-use Rattle.std.proofs.Common.{◌≡◌, ℕ, ◌*◌, ◌%◌, List, length, Option, Some, None, Ok, Err, sym, ap, ◌∙◌}
+use Rattle.std.proofs.Common.{◌≡◌, ℕ, ◌%◌, List, length, Some, None, Ok, Err, sym, ap, ◌∙◌}
 use Rattle.vx_base.specs.Pages.{IsPageList}
 use Rattle.vx_base.specs.declared.perm.PageEntry.{PageEntry}
 use Rattle.vx_elf.specs.Segments.{IsSegmentList}
@@ -14,7 +14,6 @@ use Rattle.vx_image.specs.declared.fault.ImageFault.{ImageFault}
 use Rattle.vx_image.specs.declared.fault.ImageFault.TheVariants.{NoMemory}
 use Rattle.vx_image.proofs.Allowed.{AreEntries, are_entries, entries_rise, are_listed, faultless}
 use Rattle.vx_image.proofs.Made.{all_are, length_bytes}
-use Rattle.vx_image.proofs.PageFaults.{both_at}
 
 module _ (segments : List Segment) (entries : List PageEntry) (list : IsSegmentList segments) (same : entries ≡ entries_below segments 0x4000000) where
   pub there : AreEntries entries 0x4000000

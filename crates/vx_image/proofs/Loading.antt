@@ -1,10 +1,8 @@
 -- The bytes of a page in its words.
-use Rattle.std.proofs.Common.{◌≡◌, ℕ, zero, suc, ◌+◌, ◌*◌, ◌/◌, ◌%◌, ◌^◌, ◌<◌, ◌≤◌, List, length, get_or, take, drop, slice_index, refl, sym, ap, ◌∙◌, arith}
+use Rattle.std.proofs.Common.{◌≡◌, ℕ, zero, suc, ◌+◌, ◌*◌, ◌/◌, ◌%◌, ◌^◌, ◌<◌, List, length, get_or, drop, slice_index, sym, ap, ◌∙◌, arith}
 use Rattle.std.proofs.lemmas.List.{get_or-drop}
 use Rattle.std.proofs.lemmas.Nat.{shr-shr}
 use Rattle.byteorder.specs.Endian.{little_from, little_number, IsRead}
-use Rattle.vx_base.specs.Numbers.{field}
-use Rattle.vx_base.specs.Page.{byte_of_words}
 use Rattle.vx_image.specs.Images.{HoldBytes}
 
 -- a byte of a number is that of its bytes

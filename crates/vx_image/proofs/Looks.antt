@@ -1,11 +1,11 @@
 -- What is looked up in an image that is kept.
-use Rattle.std.proofs.Common.{◌≡◌, ℕ, ◌+◌, ◌-◌, ◌*◌, ◌/◌, ◌<◌, ◌≤◌, false, true, List, [], ◌∷◌, length, take, drop, get_or, map, Option, Some, None, option_map, IsSome, IfSome, is_some, refl, sym, ap, ◌∙◌, arith}
+use Rattle.std.proofs.Common.{◌≡◌, ℕ, ◌*◌, ◌/◌, List, [], ◌∷◌, take, drop, map, Option, Some, None, option_map, IsSome, IfSome, is_some, refl, sym, ap, ◌∙◌}
 use Rattle.std.proofs.lemmas.Bool.{false≢true}
 use Rattle.vx_base.specs.declared.perm.PageEntry.{PageEntry}
-use Rattle.vx_image.specs.Pages.{MappedPage, Memory, page_numbered}
+use Rattle.vx_image.specs.Pages.{MappedPage, page_numbered}
 use Rattle.vx_image.specs.Images.{perm_of_page, entry_of_page, HoldBytes}
 use Rattle.vx_image.specs.Kept.{pages_by, pages_of, entry_at, IsRising, IsPlaceOf, Lacks}
-use Rattle.vx_image.proofs.PagesAt.{page_absent, page_at_place, page_there, permissions_there, bytes_there}
+use Rattle.vx_image.proofs.PagesAt.{page_absent, page_at_place, permissions_there, bytes_there}
 
 pub perm_at : (entries : List PageEntry) (bytes : List ℕ) (page k : ℕ) → IsRising entries → IsPlaceOf entries page k → option_map perm_of_page (page_numbered page (pages_of entries bytes)) ≡ Some (entry_at entries k).perm
 perm_at entries bytes page k rising place =

@@ -1,21 +1,17 @@
 -- The pages that are built are those of the segments.
-use Rattle.std.proofs.Common.{◌≡◌, ℕ, zero, suc, ◌+◌, ◌*◌, ◌%◌, ◌<◌, ◌≤◌, ◌⊎◌, Bool, true, false, not, leb, eqb, bit_or, inl, inr, List, [], ◌∷◌, ◌++◌, length, take, drop, get_or, replicate, map, find, filter, fold, Option, Some, None, option_map, refl, sym, ap, ◌∙◌, append-nil, length-append, arith}
-use Rattle.std.specs.List.{list_any, flat_map, All, AllPairs}
+use Rattle.std.proofs.Common.{◌≡◌, ℕ, zero, suc, ◌*◌, ◌<◌, ◌≤◌, true, false, leb, inl, inr, List, [], ◌∷◌, ◌++◌, length, map, Some, None, refl, sym, ap, ◌∙◌, length-append, arith}
+use Rattle.std.specs.List.{list_any, flat_map}
 use Rattle.std.specs.Option.{option_to_list}
 use Rattle.std.proofs.lemmas.Bool.{cases_lt, cases_Bool}
 use Rattle.std.proofs.lemmas.Bool.Decides.{nat_tests}
 use Rattle.std.proofs.lemmas.List.{map-append, take_at, drop_at}
-use Rattle.std.proofs.lemmas.List.Elements.{All-push}
-use Rattle.std.proofs.lemmas.List.Quantifiers.{all_pairs_push}
-use Rattle.vx_base.specs.Pages.{IsPageList, IsMapped, is_page_permission}
 use Rattle.vx_base.specs.declared.perm.PageEntry.{PageEntry}
 use Rattle.vx_elf.specs.declared.segment.Segment.{Segment}
-use Rattle.vx_elf.specs.Segments.{IsSegmentList, is_segment_permission}
+use Rattle.vx_elf.specs.Segments.{IsSegmentList}
 use Rattle.vx_image.specs.Pages.{MappedPage, Memory}
-use Rattle.vx_image.specs.Mapping.{meets_page, page_permissions, bytes_from, stack_page, page_of_stack, page_of_segments, mapped, pages_below, all_pages}
+use Rattle.vx_image.specs.Mapping.{meets_page, bytes_from, stack_page, page_of_stack, page_of_segments, mapped, pages_below, all_pages}
 use Rattle.vx_image.specs.Building.{entry_of_stack, entry_of_segments, mapped_entry, entries_below, bytes_of_entries}
-use Rattle.vx_image.specs.Images.{is_write_exec}
-use Rattle.vx_image.specs.Kept.{pages_by, pages_of, entry_at, IsRising}
+use Rattle.vx_image.specs.Kept.{pages_by, pages_of}
 use Rattle.vx_image.proofs.Entries.{at_stack, at_segments, at_nothing}
 use Rattle.vx_image.proofs.Filling.{length-bytes_from, zeros_beyond}
 

@@ -1,13 +1,10 @@
 -- The faults of pages, by their entries.
-use Rattle.std.proofs.Common.{◌≡◌, ℕ, suc, ◌+◌, ◌%◌, ◌<◌, ◌≤◌, Bool, true, false, ◌&&◌, eqb, ltb, if◌then◌else◌, List, [], ◌∷◌, length, drop, take, find, Option, Some, None, option_map, inl, inr, refl, sym, ap, ◌∙◌, arith}
-use Rattle.std.specs.Option.{option_or}
-use Rattle.std.proofs.lemmas.Bool.{cases_Bool}
+use Rattle.std.proofs.Common.{◌≡◌, ℕ, suc, ◌%◌, ◌<◌, ◌≤◌, Bool, true, false, ◌&&◌, eqb, ltb, if◌then◌else◌, List, [], ◌∷◌, length, drop, take, find, Option, Some, None, option_map, refl, sym, ap, ◌∙◌, arith}
 use Rattle.std.proofs.lemmas.Bool.Decides.{nat_tests}
 use Rattle.vx_base.specs.declared.perm.PageEntry.{PageEntry}
-use Rattle.vx_image.specs.Pages.{MappedPage, Memory}
-use Rattle.vx_image.specs.Images.{is_write_exec, is_code, write_exec_fault, count_fault, entry_fault, pages_fault}
+use Rattle.vx_image.specs.Pages.{MappedPage}
+use Rattle.vx_image.specs.Images.{is_write_exec, is_code, write_exec_fault, pages_fault}
 use Rattle.vx_image.specs.Kept.{pages_by, pages_of}
-use Rattle.vx_image.specs.declared.fault.ImageFault.{ImageFault}
 use Rattle.vx_image.specs.declared.fault.ImageFault.TheVariants.{WriteExec, TooManyPages, EntryNotCode}
 
 -- the lowest entry that may be both

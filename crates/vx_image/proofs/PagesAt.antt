@@ -1,12 +1,11 @@
 -- What the pages that entries and bytes stand for hold under a number.
-use Rattle.std.proofs.Common.{◌≡◌, ℕ, zero, suc, ◌+◌, ◌*◌, ◌/◌, ◌<◌, Bool, false, eqb, List, [], ◌∷◌, get_or, take, drop, Option, Some, None, refl, sym, ap, ◌∙◌, arith}
+use Rattle.std.proofs.Common.{◌≡◌, ℕ, zero, suc, ◌+◌, ◌*◌, ◌/◌, false, eqb, List, [], ◌∷◌, take, drop, Some, None, refl, ap, ◌∙◌, arith}
 use Rattle.std.proofs.lemmas.Bool.{eq-eqb, ne_eqb}
-use Rattle.std.proofs.lemmas.List.{get_or-take, get_or-drop, drop-drop}
-use Rattle.std.specs.Option.{option_map_or}
+use Rattle.std.proofs.lemmas.List.{drop-drop}
 use Rattle.vx_base.specs.Permissions.{grants}
 use Rattle.vx_base.specs.declared.machine.Want.TheVariants.{Fetch}
 use Rattle.vx_base.specs.declared.perm.PageEntry.{PageEntry}
-use Rattle.vx_image.specs.Pages.{Memory, MappedPage, page_numbered}
+use Rattle.vx_image.specs.Pages.{MappedPage, page_numbered}
 use Rattle.vx_image.specs.Images.{is_code}
 use Rattle.vx_image.specs.Kept.{pages_by, pages_of, entry_at, IsRising, IsPlaceOf, Lacks}
 

@@ -1,8 +1,7 @@
 -- The one segment of raw bytes, and its pages.
-use Rattle.std.proofs.Common.{◌≡◌, ℕ, zero, suc, ◌+◌, ◌*◌, ◌%◌, ◌<◌, ◌≤◌, Bool, true, false, not, ◌||◌, if◌then◌else◌, eqb, ltb, bit_or, inl, inr, List, [], ◌∷◌, ◌++◌, length, get_or, find, Option, Some, None, option_map, Ok, Err, refl, sym, ap, ◌∙◌, append-nil, arith}
+use Rattle.std.proofs.Common.{◌≡◌, ℕ, zero, suc, ◌+◌, ◌%◌, ◌<◌, ◌≤◌, Bool, true, false, not, ◌||◌, if◌then◌else◌, eqb, ltb, bit_or, inl, inr, List, [], ◌∷◌, length, get_or, find, Some, None, option_map, Err, refl, ap, append-nil, arith}
 use Rattle.std.specs.List.{list_any, All}
 use Rattle.std.proofs.lemmas.Bool.{cases_lt, cases_Bool, ltb-false, false≢true}
-use Rattle.std.proofs.lemmas.Bool.Decides.{nat_tests}
 use Rattle.std.proofs.lemmas.Grind.{div_ceil_times}
 use Rattle.std.proofs.lemmas.List.Elements.{All-push}
 use Rattle.vx_base.specs.Pages.{IsPageList}
@@ -10,7 +9,7 @@ use Rattle.vx_base.specs.declared.perm.PageEntry.{PageEntry}
 use Rattle.vx_elf.specs.Segments.{segments_end, IsSegment, IsSegmentList}
 use Rattle.vx_elf.specs.declared.segment.Segment.{Segment}
 use Rattle.vx_image.specs.Building.{entries_below, entry_of_stack, entry_of_segments}
-use Rattle.vx_image.specs.Images.{is_write_exec, page_count, raw_segment, raw_segments, raw_fault, raw_image, image_in, MakesRaw}
+use Rattle.vx_image.specs.Images.{is_write_exec, page_count, raw_segment, raw_fault, raw_image, image_in, MakesRaw}
 use Rattle.vx_image.specs.Mapping.{meets_page, page_permissions, stack_page, all_pages}
 use Rattle.vx_image.specs.Pages.{Image}
 use Rattle.vx_image.specs.declared.fault.ImageFault.{ImageFault}
@@ -18,7 +17,6 @@ use Rattle.vx_image.specs.declared.fault.ImageFault.TheVariants.{RawLength, TooM
 use Rattle.vx_image.proofs.Allowed.{AreEntries, are_entries, are_listed}
 use Rattle.vx_image.proofs.Assembled.{with_pages}
 use Rattle.vx_image.proofs.Entries.{at_stack, at_segments, at_nothing}
-use Rattle.vx_image.proofs.PageFaults.{both_at}
 
 -- none of two tests passed
 no_fault : (a b : Bool) (x y : ImageFault) → (if a then Some x else if b then Some y else None) ≡ None → (a ≡ false) × (b ≡ false)

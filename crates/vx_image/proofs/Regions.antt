@@ -1,11 +1,11 @@
 -- The different regions of pages that rise are counted by their changes.
-use Rattle.std.proofs.Common.{◌≡◌, ℕ, zero, suc, ◌+◌, ◌-◌, ◌*◌, ◌/◌, ◌<◌, ◌≤◌, ◌≢◌, Bool, true, false, ◌||◌, eqb, if◌then◌else◌, inl, inr, List, [], ◌∷◌, length, get_or, map, Option, Some, None, refl, sym, ap, ◌∙◌, arith}
+use Rattle.std.proofs.Common.{◌≡◌, ℕ, zero, suc, ◌/◌, ◌<◌, ◌≤◌, ◌≢◌, true, false, eqb, inl, inr, List, [], ◌∷◌, length, get_or, map, Some, None, refl, sym, ◌∙◌, arith}
 use Rattle.std.specs.List.{list_any, All, AllPairs}
 use Rattle.std.proofs.lemmas.Bool.{cases_lt, cases_Bool, eqb-true, ne_eqb, eq-eqb, false≢true}
 use Rattle.std.proofs.Math.Nat.{div-add-mod, mul-le-mul_left}
 use Rattle.vx_base.specs.Pages.{IsPageList}
 use Rattle.vx_base.specs.declared.perm.PageEntry.{PageEntry}
-use Rattle.vx_image.specs.Building.{is_last, change_count}
+use Rattle.vx_image.specs.Building.{change_count}
 use Rattle.vx_image.specs.Tables.{distinct_count}
 
 abbrev Rise : List PageEntry → Type 0

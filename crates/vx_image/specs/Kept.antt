@@ -1,8 +1,8 @@
 -- How an image is kept: the entries of its pages, and the bytes of all pages one after another. This project's own.
-use Rattle.std.specs.Prelude.{◌≡◌, ℕ, ◌+◌, ◌*◌, ◌%◌, ◌<◌, ◌≢◌, List, [], ◌∷◌, length, take, drop, slice_index_or}
+use Rattle.std.specs.Prelude.{◌≡◌, ℕ, ◌*◌, ◌%◌, ◌<◌, ◌≢◌, List, [], ◌∷◌, length, take, drop, slice_index_or}
 use Rattle.vx_base.specs.Pages.{IsPageList}
 use Rattle.vx_base.specs.declared.perm.PageEntry.{PageEntry}
-use Rattle.vx_image.specs.Pages.{MappedPage, Memory}
+use Rattle.vx_image.specs.Pages.{Memory}
 
 -- the pages that these entries and bytes stand for, with pages of so many bytes
 unfoldable pub pages_by : ℕ → List PageEntry → List ℕ → Memory

@@ -1,4 +1,4 @@
-use crate::{Image, ImageFault, image_of, raw_image};
+use crate::{Image, ImageFault, image_of, place_of, raw_image};
 use std::alloc::{AllocError, Global};
 use std::test::Fail;
 use vx_base::{Bytes, Page, Perm};
@@ -231,6 +231,10 @@ fn raw_bytes_are_an_image(rt: HostRuntime) -> Result<(), Fail> {
         assert_eq!(rt; byte_at(&image, page, j), byte, "page {page:x}, byte {j}");
     }
     assert_eq!(rt; image.perm(0x11), Some(Perm { bits: 5 }));
+    let contents = image.contents();
+    assert_eq!(rt; place_of(contents.entries, 0x11), Some(1));
+    assert_eq!(rt; contents.bytes.len(), 4096 * 18);
+    assert_eq!(rt; contents.bytes.get(4097).copied(), Some(2));
     Ok(())
 }
 

@@ -1,5 +1,5 @@
 -- The changes are the different regions, and no more than the pages.
-use Rattle.std.proofs.Common.{◌≡◌, ℕ, ◌+◌, ◌/◌, [], List, drop, map, ap, ◌∙◌, arith}
+use Rattle.std.proofs.Common.{◌≡◌, ◌/◌, [], List, drop, map, ap, arith}
 use Rattle.std.proofs.lemmas.List.{drop_all}
 use Rattle.vx_base.specs.declared.perm.PageEntry.{PageEntry}
 use Rattle.vx_image.specs.Building.{change_count}

@@ -1,5 +1,5 @@
 -- The page's entry has the place of its bytes.
-use Rattle.std.proofs.Common.{◌≡◌, ℕ, ◌+◌, ◌-◌, ◌*◌, IsSome, IfSome, subst, List, take, drop, sym, ap, ◌∙◌, arith}
+use Rattle.std.proofs.Common.{◌≡◌, ◌+◌, ◌-◌, ◌*◌, IsSome, IfSome, subst, take, drop, sym, arith}
 use Rattle.vx_image.specs.Pages.{Image, MappedPage, page_numbered}
 use Rattle.vx_image.specs.Images.{HoldBytes}
 use Rattle.vx_image.specs.Kept.{pages_of, IsRising, IsPlaceOf, Lacks}

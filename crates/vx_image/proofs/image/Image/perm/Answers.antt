@@ -1,8 +1,8 @@
 -- The entry of the page has its permissions.
-use Rattle.std.proofs.Common.{◌≡◌, Option, Some, None, option_map, sym, ap, ◌∙◌}
+use Rattle.std.proofs.Common.{Some, option_map, sym, ap, ◌∙◌}
 use Rattle.std.proofs.lemmas.List.{get_or_default}
 use Rattle.vx_base.specs.declared.perm.PageEntry.{PageEntry}
-use Rattle.vx_image.specs.Pages.{Image, Memory, page_numbered}
+use Rattle.vx_image.specs.Pages.{Image, page_numbered}
 use Rattle.vx_image.specs.Images.{perm_of_page}
 use Rattle.vx_image.specs.Kept.{IsRising, IsPlaceOf, Lacks}
 use Rattle.vx_image.proofs.Looks.{perm_at, perm_absent}
