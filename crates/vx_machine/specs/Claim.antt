@@ -24,22 +24,22 @@ pub record Devices : Type 0 where
   pub out : SinkState
   pub note : SinkState
 
--- the headline: after some number of rounds the machine stops so, the report tells its state, and what it tells is so of the
+-- the headline: after so many rounds the machine stops so, the report tells its state, and what it tells is so of the
 -- image alone
 pub record Headline (settings : Settings) (image : Image) (stop : Stop) (text : List ℕ) : Type 0 where
-  pub actions : ℕ
-  pub stops : stop_of settings (machine settings image actions) ≡ Some stop
-  pub tells : text ≡ report (account_of (machine settings image actions) ∷ []) (machine settings image actions).clock stop
-  pub values : IsTrueOf image (account_of (machine settings image actions))
+  pub count : ℕ
+  pub stops : stop_of settings (machine settings image count) ≡ Some stop
+  pub tells : text ≡ report (account_of (machine settings image count) ∷ []) (machine settings image count).clock stop
+  pub values : IsTrueOf image (account_of (machine settings image count))
 
 -- the status of a run that stopped so
 abbrev pub status_of : Stop → Status
 status_of stop.Done = Done
 status_of stop.Spent = Spent
 
--- the note grew by this line, or by a prefix of it where its count of faults rose
-abbrev pub IsNoted : Devices → Devices → List ℕ → Type 0
-IsNoted before after text = IsWritten before.note after.note text ⊎ IsCutOff before.note after.note text
+-- the note grew by this line, or by a prefix of it where the count of its faults rose
+abbrev pub IsNoted : SinkState → SinkState → List ℕ → Type 0
+IsNoted before after text = IsWritten before after text ⊎ IsCutOff before after text
 
 -- the words ask for no command, and no file was asked for; the note tells the first bad word
 pub record HasBadWords (words : List (List ℕ)) (before after : Devices) : Type 0 where
@@ -48,7 +48,7 @@ pub record HasBadWords (words : List (List ℕ)) (before after : Devices) : Type
   pub first_bad : IsFirstBad words index
   pub shelf : after.shelf ≡ before.shelf
   pub out : after.out ≡ before.out
-  pub note : IsNoted before after (bad_words index)
+  pub note : IsNoted before.note after.note (bad_words index)
 
 -- a fault of the shelf came in this call
 pub record HasReadFault (words : List (List ℕ)) (before after : Devices) : Type 0 where
@@ -56,7 +56,7 @@ pub record HasReadFault (words : List (List ℕ)) (before after : Devices) : Typ
   pub asks : AskForFile words name
   pub read : FailsToRead before.shelf after.shelf name
   pub out : after.out ≡ before.out
-  pub note : IsNoted before after (read_failed name)
+  pub note : IsNoted before.note after.note (read_failed name)
 
 -- the words ask to run the image in the file of this name, and its bytes have the fault
 pub record HasBytesFault (words : List (List ℕ)) (before after : Devices) (name : List ℕ) (fault : FileFault) : Type 0 where
@@ -78,7 +78,7 @@ pub record HasBadImage (words : List (List ℕ)) (before after : Devices) : Type
   pub fault : FileFault
   pub cause : HasFault words before after name fault
   pub out : after.out ≡ before.out
-  pub note : IsNoted before after (bad_image name fault)
+  pub note : IsNoted before.note after.note (bad_image name fault)
 
 -- the words ask for a run; the file gives an image, and it ran and stopped with this status and this report
 pub record HasRun (words : List (List ℕ)) (before after : Devices) (status : Status) (text : List ℕ) : Type 0 where
@@ -118,7 +118,7 @@ pub record HasWriteFault (words : List (List ℕ)) (before after : Devices) : Ty
   pub text : List ℕ
   pub job : HasText words before after status text
   pub out : IsCutOff before.out after.out text
-  pub note : IsNoted before after write_failed
+  pub note : IsNoted before.note after.note write_failed
 
 -- a prefix of the listing was written
 pub record HasBegun (words : List (List ℕ)) (before after : Devices) : Type 0 where
@@ -130,7 +130,7 @@ pub record HasBegun (words : List (List ℕ)) (before after : Devices) : Type 0 
 pub record HasNoMemory (words : List (List ℕ)) (before after : Devices) : Type 0 where
   pub shelf : IsUnasked before.shelf after.shelf ⊎ ((name : List ℕ) × AskForFile words name × AsksFor before.shelf after.shelf name)
   pub out : (after.out ≡ before.out) ⊎ HasBegun words before after
-  pub note : IsNoted before after no_memory
+  pub note : IsNoted before.note after.note no_memory
 
 -- what each status says
 abbrev pub Claims : List (List ℕ) → Devices → Devices → Status → Type 0

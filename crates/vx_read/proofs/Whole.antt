@@ -49,9 +49,11 @@ read_whole words final image run read is =
       window = window;
       lanes = lanes;
       budget = budget;
-      window_in_range = in_range_if run.window Window givens window (ranges Window);
-      lanes_in_range = in_range_if run.lanes Lanes givens lanes (ranges Lanes);
-      budget_in_range = in_range_if run.budget Budget givens budget (ranges Budget);
+      in_range = record {
+        window = in_range_if run.window Window givens window (ranges Window);
+        lanes = in_range_if run.lanes Lanes givens lanes (ranges Lanes);
+        budget = in_range_if run.budget Budget givens budget (ranges Budget);
+      };
     }
 
 nothing_new : (givens : List Given) → AreNew nothing givens

@@ -8,17 +8,20 @@ use Rattle.vx_read.specs.declared.asked.Asked.TheVariants as asked
 use Rattle.vx_read.specs.declared.run_words.RunWords.{RunWords}
 use Rattle.vx_read.specs.Images.{image_of}
 
--- the words ask to run this image under these options; each number is the one that its option is given,
--- and lies in the option's range
+-- each number that is given lies in its option's range
+pub record AreInRange (run : RunWords) : Type 0 where
+  pub window : IfSome run.window (λ number. IsInRange (record { option = Window; number = number }))
+  pub lanes : IfSome run.lanes (λ number. IsInRange (record { option = Lanes; number = number }))
+  pub budget : IfSome run.budget (λ number. IsInRange (record { option = Budget; number = number }))
+
+-- the words ask to run this image under these options; each number is the one that its option is given
 pub record AreRead (words : List (List ℕ)) (run : RunWords) : Type 0 where
   pub givens : List Given
   pub asked : AskFor words (Run givens (image_of run.image))
   pub window : run.window ≡ given_number Window givens
   pub lanes : run.lanes ≡ given_number Lanes givens
   pub budget : run.budget ≡ given_number Budget givens
-  pub window_in_range : IfSome run.window (λ number. IsInRange (record { option = Window; number = number }))
-  pub lanes_in_range : IfSome run.lanes (λ number. IsInRange (record { option = Lanes; number = number }))
-  pub budget_in_range : IfSome run.budget (λ number. IsInRange (record { option = Budget; number = number }))
+  pub in_range : AreInRange run
 
 -- the words ask for this
 abbrev pub IsRead : List (List ℕ) → Asked → Type 0

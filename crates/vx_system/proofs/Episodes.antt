@@ -24,7 +24,7 @@ use Rattle.vx_flat.specs.declared.upcoming.Upcoming.TheVariants.{Denied, Illegal
 use Rattle.vx_times.specs.Cycles.{end_cycle}
 use Rattle.vx_times.specs.Episode.{Event, EpisodeEnd, event, episode, run_on, process_at, ended}
 use Rattle.vx_times.specs.Episode.Event.{Stops, Retires}
-use Rattle.vx_times.specs.Footprint.{Footprint, footprint, footprint_of, footprint_as, turning}
+use Rattle.vx_times.specs.Footprint.{Footprint, footprint, footprint_of, footprint_as, jumping}
 use Rattle.vx_times.specs.Footprint.SerialStop.{Serves, Faults}
 use Rattle.vx_times.specs.History.{Organisation, History, AccessTimes, BatchTimes, greatest, batches_of, accesses_of, done_cycles}
 use Rattle.vx_times.specs.declared.pause.Pause.{Pause}
@@ -45,15 +45,15 @@ Ends (Exited code) = Unit {0}
 Ends (Faulted fault s) = Unit {0}
 
 -- a jump or a branch
-turning-retires : (lanes banks bank_time start r k : ℕ) (history : History) (s : Flat) (i : Instr) (done : Effect) → IsQuiet (in_order lanes banks bank_time) start r history → k ≡ r + 3 → GoesOn (affected s i.rd done) → RetiresAt (in_order lanes banks bank_time) start history (turning i done) k
-turning-retires lanes banks bank_time start r k history s i (effect.Value value pc) q e h = RetiresAt-plain lanes banks bank_time start r k history false true 1 (i.rs1 ∷ i.rs2 ∷ []) (i.rd ∷ []) q (omega arith) (omega arith)
-turning-retires lanes banks bank_time start r k history s i (effect.Next pc) q e h = RetiresAt-plain lanes banks bank_time start r k history false true 1 (i.rs1 ∷ i.rs2 ∷ []) (i.rd ∷ []) q (omega arith) (omega arith)
-turning-retires lanes banks bank_time start r k history s i (effect.Misaligned target) q e h = absurd h
+jumping-retires : (lanes banks bank_time start r k : ℕ) (history : History) (s : Flat) (i : Instr) (done : Effect) → IsQuiet (in_order lanes banks bank_time) start r history → k ≡ r + 3 → GoesOn (affected s i.rd done) → RetiresAt (in_order lanes banks bank_time) start history (jumping i done) k
+jumping-retires lanes banks bank_time start r k history s i (effect.Value value pc) q e h = RetiresAt-plain lanes banks bank_time start r k history false true 1 (i.rs1 ∷ i.rs2 ∷ []) (i.rd ∷ []) q (omega arith) (omega arith)
+jumping-retires lanes banks bank_time start r k history s i (effect.Next pc) q e h = RetiresAt-plain lanes banks bank_time start r k history false true 1 (i.rs1 ∷ i.rs2 ∷ []) (i.rd ∷ []) q (omega arith) (omega arith)
+jumping-retires lanes banks bank_time start r k history s i (effect.Misaligned target) q e h = absurd h
 
-turning-stops : (lanes banks bank_time start r k : ℕ) (history : History) (s : Flat) (i : Instr) (done : Effect) → IsQuiet (in_order lanes banks bank_time) start r history → k ≡ r + 1 → Ends (affected s i.rd done) → StopsAt (in_order lanes banks bank_time) start history (turning i done) Over k
-turning-stops lanes banks bank_time start r k history s i (effect.Value value pc) q e h = absurd h
-turning-stops lanes banks bank_time start r k history s i (effect.Next pc) q e h = absurd h
-turning-stops lanes banks bank_time start r k history s i (effect.Misaligned target) q e h = StopsAt-serial lanes banks bank_time start r k history Faults q e
+jumping-stops : (lanes banks bank_time start r k : ℕ) (history : History) (s : Flat) (i : Instr) (done : Effect) → IsQuiet (in_order lanes banks bank_time) start r history → k ≡ r + 1 → Ends (affected s i.rd done) → StopsAt (in_order lanes banks bank_time) start history (jumping i done) Over k
+jumping-stops lanes banks bank_time start r k history s i (effect.Value value pc) q e h = absurd h
+jumping-stops lanes banks bank_time start r k history s i (effect.Next pc) q e h = absurd h
+jumping-stops lanes banks bank_time start r k history s i (effect.Misaligned target) q e h = StopsAt-serial lanes banks bank_time start r k history Faults q e
 
 -- an instruction of a class does what its row does
 effect-as : (c : Class) (s : Flat) (i : Instr) → class_of i.op ≡ c → effect i s.x s.pc ≡ effect_as c i.op s.pc (register s i.rs1) (register s i.rs2) (reduced 64 i.imm)
@@ -85,8 +85,8 @@ class-retires : (lanes banks bank_time start r k : ℕ) (history : History) (c :
 class-retires lanes banks bank_time start r k history class.Arithmetic s i q other h e = RetiresAt-plain lanes banks bank_time start r k history false false 1 (i.rs1 ∷ i.rs2 ∷ []) (i.rd ∷ []) q (omega arith) (omega arith)
 class-retires lanes banks bank_time start r k history class.Multiply s i q other h e = RetiresAt-plain lanes banks bank_time start r k history false false 3 (i.rs1 ∷ i.rs2 ∷ []) (i.rd ∷ []) q (omega arith) (omega arith)
 class-retires lanes banks bank_time start r k history class.Divide s i q other h e = RetiresAt-plain lanes banks bank_time start r k history false false 20 (i.rs1 ∷ i.rs2 ∷ []) (i.rd ∷ []) q (omega arith) (omega arith)
-class-retires lanes banks bank_time start r k history class.Jump s i q other h e = turning-retires lanes banks bank_time start r k history s i (effect i s.x s.pc) q (omega arith) h
-class-retires lanes banks bank_time start r k history class.Branch s i q other h e = turning-retires lanes banks bank_time start r k history s i (effect i s.x s.pc) q (omega arith) h
+class-retires lanes banks bank_time start r k history class.Jump s i q other h e = jumping-retires lanes banks bank_time start r k history s i (effect i s.x s.pc) q (omega arith) h
+class-retires lanes banks bank_time start r k history class.Branch s i q other h e = jumping-retires lanes banks bank_time start r k history s i (effect i s.x s.pc) q (omega arith) h
 class-retires lanes banks bank_time start r k history class.Load s i q other h e =
     access-retires lanes banks bank_time start r k history i.rs1 i.rs2 (i.rd ∷ []) 0 (access_address i s.x) false _ (permits s.memory (access_address i s.x) Load) _ _ _ q (omega arith) none none h
 class-retires lanes banks bank_time start r k history class.Store s i q other h e =
@@ -100,8 +100,8 @@ class-stops lanes banks bank_time start r k history class.Arithmetic s i is q ot
 class-stops lanes banks bank_time start r k history class.Multiply s i is q other h e = absurd (ends-as-row class.Multiply s i is h)
 class-stops lanes banks bank_time start r k history class.Divide s i is q other h e = absurd (ends-as-row class.Divide s i is h)
 class-stops lanes banks bank_time start r k history class.Fence s i is q other h e = absurd (ends-as-row class.Fence s i is h)
-class-stops lanes banks bank_time start r k history class.Jump s i is q other h e = turning-stops lanes banks bank_time start r k history s i (effect i s.x s.pc) q (omega arith) h
-class-stops lanes banks bank_time start r k history class.Branch s i is q other h e = turning-stops lanes banks bank_time start r k history s i (effect i s.x s.pc) q (omega arith) h
+class-stops lanes banks bank_time start r k history class.Jump s i is q other h e = jumping-stops lanes banks bank_time start r k history s i (effect i s.x s.pc) q (omega arith) h
+class-stops lanes banks bank_time start r k history class.Branch s i is q other h e = jumping-stops lanes banks bank_time start r k history s i (effect i s.x s.pc) q (omega arith) h
 class-stops lanes banks bank_time start r k history class.Load s i is q other h e =
     access-stops lanes banks bank_time start r k history i.rs1 i.rs2 (i.rd ∷ []) 0 (access_address i s.x) false _ (permits s.memory (access_address i s.x) Load) _ _ _ q (omega arith) none h
 class-stops lanes banks bank_time start r k history class.Store s i is q other h e =

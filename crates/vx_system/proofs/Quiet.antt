@@ -81,9 +81,9 @@ if-le : (b : Bool) (x y k : ℕ) → x ≤ k → y ≤ k → (if b then x else y
 if-le true x y k p q = p
 if-le false x y k p q = q
 
-turns-le : (turns : Bool) (issued r k : ℕ) → issued ≡ r + 1 → r + 3 ≤ k → issued + (if turns then 2 else 1) ≤ k + 1
-turns-le true issued r k i e = omega arith
-turns-le false issued r k i e = omega arith
+jumps-le : (jumps : Bool) (issued r k : ℕ) → issued ≡ r + 1 → r + 3 ≤ k → issued + (if jumps then 2 else 1) ≤ k + 1
+jumps-le true issued r k i e = omega arith
+jumps-le false issued r k i e = omega arith
 
 -- the retire before, where an instruction waits for it
 waits-le : (waits : Bool) (last r : ℕ) → last ≡ r → (if waits then last + 1 else 0) ≤ r + 1
@@ -97,8 +97,8 @@ free-more true served bank_time k rest p q = p
 free-more false served bank_time k rest p q = q
 
 -- an instruction without an access
-abbrev pub plain : (is_serial turns : Bool) (latency : ℕ) (reads writes : List ℕ) → Footprint
-plain is_serial turns latency reads writes = record { latency = latency; turns = turns; is_serial = is_serial; reads = reads; writes = writes; batches = []; stop = None }
+abbrev pub plain : (is_serial jumps : Bool) (latency : ℕ) (reads writes : List ℕ) → Footprint
+plain is_serial jumps latency reads writes = record { latency = latency; jumps = jumps; is_serial = is_serial; reads = reads; writes = writes; batches = []; stop = None }
 
 -- all registers that an instruction reads
 ready-all : (start r : ℕ) (history : History) (reads : List ℕ) → ((register : ℕ) → register_ready start history register ≤ r) → greatest (map (register_ready start history) reads) ≤ r
@@ -120,7 +120,7 @@ plain-more lanes banks bank_time start r issued completed retired k history f q 
       floor = omega arith;
       before = omega arith;
       issue = omega arith;
-      fetch = turns-le f.turns issued r k i e;
+      fetch = jumps-le f.jumps issued r k i e;
       ready = λ register. ready-more _ _ start completed (register_ready start history register) k start-le c (omega (arith, q.ready register));
       look_up = omega (arith, q.look_up);
       commit = omega (arith, q.commit);
@@ -135,10 +135,10 @@ plain-completed i l c r p o q = omega arith
 plain-retired : (l n c t r k : ℕ) → l ≡ r → c ≡ r + 1 + n → k ≡ r + 2 + n → t ≡ max (l + 1) (max (c + 1) 0) → t ≡ k
 plain-retired l n c t r k p q e h = omega arith
 
-pub RetiresAt-plain : (lanes banks bank_time start r k : ℕ) (history : History) (is_serial turns : Bool) (latency : ℕ) (reads writes : List ℕ) → IsQuiet (in_order lanes banks bank_time) start r history → 1 ≤ latency → k ≡ r + 2 + latency → RetiresAt (in_order lanes banks bank_time) start history (plain is_serial turns latency reads writes) k
-RetiresAt-plain lanes banks bank_time start r k history is_serial turns latency reads writes q some e =
+pub RetiresAt-plain : (lanes banks bank_time start r k : ℕ) (history : History) (is_serial jumps : Bool) (latency : ℕ) (reads writes : List ℕ) → IsQuiet (in_order lanes banks bank_time) start r history → 1 ≤ latency → k ≡ r + 2 + latency → RetiresAt (in_order lanes banks bank_time) start history (plain is_serial jumps latency reads writes) k
+RetiresAt-plain lanes banks bank_time start r k history is_serial jumps latency reads writes q some e =
     let machine = in_order lanes banks bank_time in
-    let f = plain is_serial turns latency reads writes in
+    let f = plain is_serial jumps latency reads writes in
     let issued = issue_cycle machine start history f in
     let completed = complete_cycle issued f [] in
     let retired = retire_cycle start history completed in
@@ -177,7 +177,7 @@ access_of element address is_store is_good = record { element = element; address
 
 -- a load or a store of one access
 abbrev pub one_access : (a b : ℕ) (writes : List ℕ) → Access → Footprint
-one_access a b writes access = record { latency = 1; turns = false; is_serial = false; reads = a ∷ b ∷ []; writes = writes; batches = (access ∷ []) ∷ []; stop = None }
+one_access a b writes access = record { latency = 1; jumps = false; is_serial = false; reads = a ∷ b ∷ []; writes = writes; batches = (access ∷ []) ∷ []; stop = None }
 
 -- of numbers: an access's start, queue, serve, completion and retire
 started-of : (i u c w r s : ℕ) → i ≡ r + 1 → u ≤ r + 1 → c ≤ r + 1 → w ≤ r + 1 → s ≡ max (i + 1) (max u (max c (max w 0))) → s ≡ r + 2
@@ -196,8 +196,8 @@ retired-of : (l c r k t : ℕ) → l ≡ r → c ≡ r + 3 + k → t ≡ max (l 
 retired-of l c r k t p q is = omega arith
 
 -- what a history keeps where an access retires
-access-more : (lanes banks bank_time start r k : ℕ) (history : History) (e : Entry) (b : BatchTimes) (a : AccessTimes) → IsQuiet (in_order lanes banks bank_time) start r history → k ≡ r + 4 + bank_time → e.batches ≡ b ∷ [] → b.accesses ≡ a ∷ [] → e.issued ≡ r + 1 → e.completed ≤ k → e.retired ≡ k → e.footprint.turns ≡ false → b.looked_up ≡ r + 2 → b.committed ≡ k → a.served ≡ r + 3 → a.done ≡ r + 3 + bank_time → IsQuiet (in_order lanes banks bank_time) start k (e ∷ history)
-access-more lanes banks bank_time start r k history e b a q is batch access issued completed retired turns looked_up committed served done =
+access-more : (lanes banks bank_time start r k : ℕ) (history : History) (e : Entry) (b : BatchTimes) (a : AccessTimes) → IsQuiet (in_order lanes banks bank_time) start r history → k ≡ r + 4 + bank_time → e.batches ≡ b ∷ [] → b.accesses ≡ a ∷ [] → e.issued ≡ r + 1 → e.completed ≤ k → e.retired ≡ k → e.footprint.jumps ≡ false → b.looked_up ≡ r + 2 → b.committed ≡ k → a.served ≡ r + 3 → a.done ≡ r + 3 + bank_time → IsQuiet (in_order lanes banks bank_time) start k (e ∷ history)
+access-more lanes banks bank_time start r k history e b a q is batch access issued completed retired jumps looked_up committed served done =
     let from = q.from in
     let start-le : start ≤ k = omega arith in
     let free-le : a.served + bank_time ≤ k = omega arith in
@@ -207,7 +207,7 @@ access-more lanes banks bank_time start r k history e b a q is batch access issu
       floor = omega arith;
       before = omega arith;
       issue = omega arith;
-      fetch = rw turns (omega arith);
+      fetch = rw jumps (omega arith);
       ready = λ register. ready-more _ _ start e.completed (register_ready start history register) k start-le completed (omega (arith, q.ready register));
       look_up = rw batch (omega arith);
       commit = rw batch (omega arith);

@@ -13,13 +13,13 @@ use Rattle.vx_system.specs.Runs.{SystemState, StepsTo, Runs, with_machine}
 -- the machine has done some rounds, and the process has taken steps up to the clock
 pub record IsOnItsWay (before now : SystemState) : Type 0 where
   pub settings : now.settings ≡ before.settings
-  pub actions : ℕ
-  pub reached : now.machine ≡ rounds before.settings actions before.machine
+  pub count : ℕ
+  pub reached : now.machine ≡ rounds before.settings count before.machine
   pub steps : StepsTo before.machine.process now.machine.process before.machine.clock now.machine.clock
 
 pub IsOnItsWay-start : (s : SystemState) → IsOnItsWay s s
 unfolding rounds
-IsOnItsWay-start s = record { settings = refl; actions = 0; reached = refl; steps = StepsTo-none s.machine.process s.machine.clock }
+IsOnItsWay-start s = record { settings = refl; count = 0; reached = refl; steps = StepsTo-none s.machine.process s.machine.clock }
 
 rounds-more : (settings : Settings) (n : ℕ) (m : Machine) → stop_of settings (rounds settings n m) ≡ None → rounds settings (suc n) m ≡ round settings (rounds settings n m)
 unfolding rounds
@@ -30,11 +30,11 @@ pub IsOnItsWay-more : (before now later : SystemState) → IsOnItsWay before now
 IsOnItsWay-more before now later h goes is steps =
     let settings = h.settings in
     let at = h.reached in
-    let goes-on : stop_of before.settings (rounds before.settings h.actions before.machine) ≡ None = rw (← at) (rw (← settings) goes) in
-    let more = rounds-more before.settings h.actions before.machine goes-on in
+    let goes-on : stop_of before.settings (rounds before.settings h.count before.machine) ≡ None = rw (← at) (rw (← settings) goes) in
+    let more = rounds-more before.settings h.count before.machine goes-on in
     record {
       settings = ap (λ (s : SystemState). s.settings) is ∙ settings;
-      actions = suc h.actions;
+      count = suc h.count;
       reached = ap (λ (s : SystemState). s.machine) is ∙ (ap (λ (s : Settings). round s now.machine) settings ∙ (ap (round before.settings) at ∙ sym more));
       steps = StepsTo-join before.machine.process now.machine.process later.machine.process before.machine.clock now.machine.clock later.machine.clock h.steps steps;
     }
@@ -43,7 +43,7 @@ IsOnItsWay-more before now later h goes is steps =
 pub Runs-stop : (before now : SystemState) (stop : Stop) → IsOnItsWay before now → now.machine.clock < 2 ^ 63 → stop_of now.settings now.machine ≡ Some stop → Runs before now stop
 Runs-stop before now stop h bounded stops = record {
   settings = h.settings;
-  actions = h.actions;
+  count = h.count;
   reached = h.reached;
   stops = ap (λ (s : Settings). stop_of s now.machine) (sym h.settings) ∙ stops;
   steps = h.steps;

@@ -37,8 +37,8 @@ pub record StepsTo (before after : Process) (from to : ℕ) : Type 0 where
 -- the machine did some rounds and stopped so; the process took steps, no more of them than the clock's cycles
 pub record Runs (before after : SystemState) (stop : Stop) : Type 0 where
   pub settings : after.settings ≡ before.settings
-  pub actions : ℕ
-  pub reached : after.machine ≡ rounds before.settings actions before.machine
+  pub count : ℕ
+  pub reached : after.machine ≡ rounds before.settings count before.machine
   pub stops : stop_of before.settings after.machine ≡ Some stop
   pub steps : StepsTo before.machine.process after.machine.process before.machine.clock after.machine.clock
   pub bounded : after.machine.clock < 2 ^ 63

@@ -9,7 +9,7 @@ use Rattle.vx_times.specs.History.{Organisation, History, BatchTimes, AccessTime
 -- fetch: one cycle after the issue before it, two after that of a branch or a jump
 abbrev pub fetch_cycle : ℕ → History → ℕ
 fetch_cycle start [] = start + 1
-fetch_cycle start (last ∷ history) = last.issued + (if last.footprint.turns then 2 else 1)
+fetch_cycle start (last ∷ history) = last.issued + (if last.footprint.jumps then 2 else 1)
 
 -- issue: in order, once its operands are ready and an instruction of the window has retired; a serial one behind the retire
 -- before it

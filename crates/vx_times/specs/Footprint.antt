@@ -31,8 +31,8 @@ pub data SerialStop : Type 0 where
 pub record Footprint : Type 0 where
   -- how many cycles after its issue it completes, if its accesses don't take longer
   pub latency : ℕ
-  -- it is a branch or a jump
-  pub turns : Bool
+  -- it is a jump or a branch
+  pub jumps : Bool
   -- it waits for the retire of the instruction before it
   pub is_serial : Bool
   -- the x registers that it reads, and those that it writes
@@ -44,21 +44,21 @@ pub record Footprint : Type 0 where
 
 -- an instruction that stops its episode
 abbrev pub stopping : SerialStop → Footprint
-stopping stop = record { latency = 1; turns = false; is_serial = true; reads = []; writes = []; batches = []; stop = Some stop }
+stopping stop = record { latency = 1; jumps = false; is_serial = true; reads = []; writes = []; batches = []; stop = Some stop }
 
 -- an instruction that touches no memory; an operand that its shape lacks is x0, which no instruction writes
-abbrev pub running : Instr → (latency : ℕ) → (turns : Bool) → Footprint
-running i latency turns = record { latency = latency; turns = turns; is_serial = false; reads = i.rs1 ∷ i.rs2 ∷ []; writes = i.rd ∷ []; batches = []; stop = None }
+abbrev pub running : Instr → (latency : ℕ) → (jumps : Bool) → Footprint
+running i latency jumps = record { latency = latency; jumps = jumps; is_serial = false; reads = i.rs1 ∷ i.rs2 ∷ []; writes = i.rd ∷ []; batches = []; stop = None }
 
 -- a jump or a branch, by what it does: it stops where its target is misaligned
-abbrev pub turning : Instr → Effect → Footprint
-turning i (Value value pc) = running i 1 true
-turning i (Next pc) = running i 1 true
-turning i (Misaligned target) = stopping Faults
+abbrev pub jumping : Instr → Effect → Footprint
+jumping i (Value value pc) = running i 1 true
+jumping i (Next pc) = running i 1 true
+jumping i (Misaligned target) = stopping Faults
 
 -- a fence, which waits for what is before it and reads no register
 abbrev pub fencing : Footprint
-fencing = record { latency = 1; turns = false; is_serial = true; reads = []; writes = []; batches = []; stop = None }
+fencing = record { latency = 1; jumps = false; is_serial = true; reads = []; writes = []; batches = []; stop = None }
 
 -- a scalar access is a batch of one
 abbrev pub one_access : Flat → Instr → Want → (is_store : Bool) → Access
@@ -66,8 +66,8 @@ one_access s i want is_store =
     let address = access_address i s.x in
     record { element = 0; address = address; is_store = is_store; is_good = (address % access_width i.op == 0) && permits s.memory address want }
 
-abbrev pub transferring : Instr → Access → Footprint
-transferring i access = record { latency = 1; turns = false; is_serial = false; reads = i.rs1 ∷ i.rs2 ∷ []; writes = i.rd ∷ []; batches = (access ∷ []) ∷ []; stop = None }
+abbrev pub accessing : Instr → Access → Footprint
+accessing i access = record { latency = 1; jumps = false; is_serial = false; reads = i.rs1 ∷ i.rs2 ∷ []; writes = i.rd ∷ []; batches = (access ∷ []) ∷ []; stop = None }
 
 -- how many cycles after its issue a multiplication completes, and a division or a remainder
 abbrev pub multiply_latency : ℕ
@@ -80,10 +80,10 @@ abbrev pub footprint_as : Class → Flat → Instr → Footprint
 footprint_as class.Arithmetic s i = running i 1 false
 footprint_as class.Multiply s i = running i multiply_latency false
 footprint_as class.Divide s i = running i divide_latency false
-footprint_as class.Jump s i = turning i (effect i s.x s.pc)
-footprint_as class.Branch s i = turning i (effect i s.x s.pc)
-footprint_as class.Load s i = transferring i (one_access s i Load false)
-footprint_as class.Store s i = transferring i (one_access s i Store true)
+footprint_as class.Jump s i = jumping i (effect i s.x s.pc)
+footprint_as class.Branch s i = jumping i (effect i s.x s.pc)
+footprint_as class.Load s i = accessing i (one_access s i Load false)
+footprint_as class.Store s i = accessing i (one_access s i Store true)
 footprint_as class.Fence s i = fencing
 footprint_as class.Ecall s i = stopping Serves
 footprint_as class.Ebreak s i = stopping Faults

@@ -9,7 +9,7 @@ use Rattle.vx_elf.specs.Reading.{elf_fault, segments_in}
 use Rattle.vx_elf.specs.declared.fault.ElfFault.{ElfFault}
 use Rattle.vx_image.specs.Images.{raw_fault, image_fault}
 use Rattle.vx_image.specs.declared.fault.ImageFault.{ImageFault}
-use Rattle.vx_machine.specs.Claim.{Devices, Headline, Claims, HasFault, HasRun, status_of}
+use Rattle.vx_machine.specs.Claim.{Devices, Headline, Claims, HasFault, HasRun, IsNoted, status_of}
 use Rattle.vx_machine.specs.ImageFiles.{file_fault, image_of_file}
 use Rattle.vx_machine.specs.Machine.{Settings}
 use Rattle.vx_read.specs.Images.{image_of}
@@ -19,7 +19,7 @@ use Rattle.vx_system.specs.Runs.{settings_of}
 use Rattle.vx_top.proofs.Settled.{AreFor, settled}
 use Rattle.vx_source.specs.Listing.{listing}
 use Rattle.vx_top.specs.Files.{RanFile, RefusesFile, RefusesRead, Refuses, TellsRefusal, TellsReport, TellsListing}
-use Rattle.vx_top.specs.Noted.{Noted, NotesWant, Answers}
+use Rattle.vx_top.specs.Noted.{NotesWant, Answers}
 use Rattle.vx_top.specs.declared.refusal.Refusal.{Refusal}
 use Rattle.vx_top.specs.declared.refusal.Refusal.TheVariants as refusal
 use Rattle.vx_top.specs.declared.run.Report.{Report}
@@ -33,8 +33,8 @@ use Rattle.vx_words.specs.declared.status.Status.{Status}
 use Rattle.vx_words.specs.declared.status.Status.TheVariants.{Done, Usage, ReadFault, BadImage, WriteFault, Spent, NoMemory}
 
 -- a status was answered with its note, where that is what its text is
-pub Answers-from : {T E : Type 0} (bytes : T → List ℕ) (text : Result T E) (before after : SinkState) (status answer : Status) (note : List ℕ) → IfOk text (λ t. bytes t ≡ note) → MatchResult text (λ t. (answer ≡ status) × Noted before after (bytes t)) (λ _. NotesWant before after answer) → Answers before after status note answer
-Answers-from bytes (Ok t) before after status answer note is told = inl (told.0, subst (λ (l : List ℕ). Noted before after l) is told.1)
+pub Answers-from : {T E : Type 0} (bytes : T → List ℕ) (text : Result T E) (before after : SinkState) (status answer : Status) (note : List ℕ) → IfOk text (λ t. bytes t ≡ note) → MatchResult text (λ t. (answer ≡ status) × IsNoted before after (bytes t)) (λ _. NotesWant before after answer) → Answers before after status note answer
+Answers-from bytes (Ok t) before after status answer note is told = inl (told.0, subst (λ (l : List ℕ). IsNoted before after l) is told.1)
 Answers-from bytes (Err e) before after status answer note is told = inr told
 
 -- the words ask for no command, and that was answered with its note

@@ -19,7 +19,7 @@ pub Headline-from : (settings : Settings) (image : Image) (after : SystemState) 
 Headline-from settings image after stop text runs told law =
     let counted : runs.steps.steps < 2 ^ 64 - 1 = omega arith in
     record {
-      actions = runs.actions;
+      count = runs.count;
       stops = subst (λ (m : Machine). stop_of settings m ≡ Some stop) runs.reached runs.stops;
       tells = subst (λ (m : Machine). text ≡ report (account_of m ∷ []) m.clock stop) runs.reached told;
       values = subst (λ (m : Machine). IsTrueOf image (account_of m)) runs.reached (law image runs.steps.steps after.machine counted runs.steps.stepped);

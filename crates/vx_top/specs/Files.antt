@@ -7,11 +7,11 @@ use Rattle.vx_elf.specs.declared.fault.ElfFault.TheVariants as elf
 use Rattle.vx_image.specs.Pages.{Image}
 use Rattle.vx_image.specs.declared.fault.ImageFault.{ImageFault}
 use Rattle.vx_image.specs.declared.fault.ImageFault.TheVariants as image
-use Rattle.vx_machine.specs.Claim.{Headline}
+use Rattle.vx_machine.specs.Claim.{Headline, IsNoted}
 use Rattle.vx_machine.specs.ImageFiles.{file_fault, image_of_file}
 use Rattle.vx_machine.specs.Machine.{Settings}
 use Rattle.vx_machine.specs.declared.stop.Stop.TheVariants as stop
-use Rattle.vx_top.specs.Noted.{Noted, NotesWant, Answers}
+use Rattle.vx_top.specs.Noted.{NotesWant, Answers}
 use Rattle.vx_top.specs.declared.refusal.Refusal.{Refusal}
 use Rattle.vx_top.specs.declared.refusal.Refusal.TheVariants.{ReadFault, BadFile, NoMemory}
 use Rattle.vx_top.specs.declared.run.Report.{Report}
@@ -76,7 +76,7 @@ TellsRefusal before after name NoMemory answer = NotesWant before after answer
 abbrev pub TellsReport : SinkState → SinkState → SinkState → SinkState → Report → Status → Type 0
 TellsReport out out' note note' report status.Done = (report.stop ≡ stop.Done) × IsWritten out out' report.text × (note' ≡ note)
 TellsReport out out' note note' report status.Spent = (report.stop ≡ stop.Spent) × IsWritten out out' report.text × (note' ≡ note)
-TellsReport out out' note note' report status.WriteFault = IsCutOff out out' report.text × Noted note note' notes.write_failed
+TellsReport out out' note note' report status.WriteFault = IsCutOff out out' report.text × IsNoted note note' notes.write_failed
 TellsReport out out' note note' report status.Usage = ⊥
 TellsReport out out' note note' report status.ReadFault = ⊥
 TellsReport out out' note note' report status.BadImage = ⊥
@@ -85,8 +85,8 @@ TellsReport out out' note note' report status.NoMemory = ⊥
 -- the status that tells how a listing went: what it says of the sink for the listing and of the one for notes
 abbrev pub TellsListing : SinkState → SinkState → SinkState → SinkState → List ℕ → Status → Type 0
 TellsListing out out' note note' text status.Done = IsWritten out out' text × (note' ≡ note)
-TellsListing out out' note note' text status.WriteFault = IsCutOff out out' text × Noted note note' notes.write_failed
-TellsListing out out' note note' text status.NoMemory = IsBegun out out' text × Noted note note' notes.no_memory
+TellsListing out out' note note' text status.WriteFault = IsCutOff out out' text × IsNoted note note' notes.write_failed
+TellsListing out out' note note' text status.NoMemory = IsBegun out out' text × IsNoted note note' notes.no_memory
 TellsListing out out' note note' text status.Spent = ⊥
 TellsListing out out' note note' text status.Usage = ⊥
 TellsListing out out' note note' text status.ReadFault = ⊥

@@ -1,4 +1,3 @@
 pub mod Adapters
 pub mod Files
 pub mod Noted
-pub mod Ranges

@@ -1,9 +1,8 @@
 ghost use Rattle.std.specs.Prelude.{ℕ, List, map, string_bytes};
 ghost use Rattle.vx_machine.specs.Claim.{Claims};
-ghost use Rattle.vx_read.specs.Read.{AreRead};
+ghost use Rattle.vx_read.specs.Read.{AreInRange, AreRead};
 ghost use Rattle.vx_words.specs.Words.{AskFor};
 ghost use Rattle.vx_words.specs.Words.Command.{Dis};
-ghost use Rattle.vx_top.specs.Ranges.{AreInRange};
 
 use crate::load::{name_of, read_file};
 use crate::notes;

@@ -1,5 +1,5 @@
 ghost use Rattle.std.specs.Prelude.{◌≡◌, ◌≤◌, ◌^◌, IfSome, unwrap_or};
-ghost use Rattle.vx_top.specs.Ranges.{AreInRange};
+ghost use Rattle.vx_read.specs.Read.{AreInRange};
 
 use vx_base::Options;
 use vx_read::RunWords;

@@ -1,7 +1,8 @@
 ghost use Rattle.std.specs.Prelude.{◌≡◌, string_bytes, MatchResult};
 ghost use Rattle.vx_top.specs.Files.{TellsRefusal, TellsReport, TellsListing};
 ghost use Rattle.vx_source.specs.Listing.{listing};
-ghost use Rattle.vx_top.specs.Noted.{Noted, NotesWant};
+ghost use Rattle.vx_machine.specs.Claim.{IsNoted};
+ghost use Rattle.vx_top.specs.Noted.{NotesWant};
 
 use crate::fault_notes::bad_image;
 use crate::notes;
@@ -15,7 +16,7 @@ use vx_words::Status;
 
 /// Writes a note. A fault of its sink changes nothing.
 fn write_note<N: Sink>(note: &mut N, text: &str)
-    ensures { Noted (N.state note.old) (N.state note.new) text.now }
+    ensures { IsNoted (N.state note.old) (N.state note.new) text.now }
 {
     match write_text(note, text.as_bytes()) {
         Ok(()) => {}
@@ -33,7 +34,7 @@ fn tell_want<N: Sink>(note: &mut N) -> Status
 
 /// Answers the status with its note; where memory was wanting for that, notes that.
 pub fn tell<N: Sink>(note: &mut N, status: Status, text: Result<String, AllocError>) -> Status
-    ensures { MatchResult text (λ t. (result ≡ status) × Noted (N.state note.old) (N.state note.new) (string_bytes t)) (λ _. NotesWant (N.state note.old) (N.state note.new) result) }
+    ensures { MatchResult text (λ t. (result ≡ status) × IsNoted (N.state note.old) (N.state note.new) (string_bytes t)) (λ _. NotesWant (N.state note.old) (N.state note.new) result) }
 {
     match text {
         Ok(text) => {
