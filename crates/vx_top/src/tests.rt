@@ -123,26 +123,6 @@ fn a_program_of_any_word_ends(rt: HostRuntime) -> Result<(), Fail> {
 }
 
 #[test]
-fn a_large_image_writes_all_that_it_may(rt: HostRuntime) -> Result<(), Fail> {
-    let alloc = rt.alloc();
-    let code = [
-        0x13, 0x05, 0x10, 0x00, 0xb7, 0x05, 0x01, 0x00, 0x37, 0x06, 0x10, 0x00, 0x93, 0x08, 0x00,
-        0x04, 0x73, 0, 0, 0, 0x13, 0x05, 0, 0, 0x93, 0x08, 0xd0, 0x05, 0x73, 0, 0, 0,
-    ];
-    let mut image = vec![in alloc; 0u8; 3 << 20]?;
-    image[..32].copy_from_slice(&code);
-    let mut shelf = shelf_of(alloc, "large", image)?;
-    let out = MemSink::new(alloc, 2 << 20, 2 << 20, Vec::new(alloc))?;
-    let note = sink(alloc, 4096, Vec::new(alloc))?;
-    let done = call_on(alloc, "run raw:large", &mut shelf, out, note)?;
-    let text = done.out.bytes();
-    assert_eq!(rt; done.status, Status::Done);
-    assert!(rt; text.starts_with(b"process 0: exited 0\n  instructions 8 cycles "));
-    assert!(rt; text.len() > 1 << 20);
-    Ok(())
-}
-
-#[test]
 fn options_are_heeded(rt: HostRuntime) -> Result<(), Fail> {
     let alloc = rt.alloc();
     let table = [
