@@ -102,10 +102,8 @@ Claims-unread words name ask before after (refusal.BadFile TooLong) answer out c
     HasNoMemory-asked words name ask before after cause.asks out answer want
 Claims-unread words name ask before after (refusal.BadFile (BadElf fault)) answer out cause told = elim cause [ ]
 Claims-unread words name ask before after (refusal.BadFile (NoImage fault)) answer out cause told = elim cause [ ]
-Claims-unread words name ask before after refusal.NoMemory answer out (inl unasked) told =
+Claims-unread words name ask before after refusal.NoMemory answer out unasked told =
     rw told.0 (record { shelf = inl unasked; out = inl out; note = told.1 })
-Claims-unread words name ask before after refusal.NoMemory answer out (inr asks) told =
-    HasNoMemory-asked words name ask before after asks out answer told
 
 -- the words ask for a run of their file
 run_asks : (words : List (List ℕ)) (run : RunWords) (read : AreRead words run) → AskForFile words (name_of (image_of run.image))

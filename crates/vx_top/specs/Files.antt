@@ -1,6 +1,6 @@
 -- What the reading and the running of an image's file give. This project's own.
 use Rattle.std.specs.Prelude.{◌≡◌, ℕ, ◌⊎◌, List, Some, None}
-use Rattle.vx_base.specs.Shelf.{ShelfState, AsksFor, Reads, FailsToRead, IsTooLong, IsUnasked}
+use Rattle.vx_base.specs.Shelf.{ShelfState, Reads, FailsToRead, IsTooLong, IsUnasked}
 use Rattle.vx_base.specs.Sink.{SinkState, IsWritten, IsBegun, IsCutOff}
 use Rattle.vx_elf.specs.declared.fault.ElfFault.{ElfFault}
 use Rattle.vx_elf.specs.declared.fault.ElfFault.TheVariants as elf
@@ -56,7 +56,7 @@ abbrev pub RefusesFile : ShelfState → ShelfState → List ℕ → Refusal → 
 RefusesFile before after name ReadFault = FailsToRead before after name
 RefusesFile before after name (BadFile TooLong) = IsTooLong before after name notes.file_limit
 RefusesFile before after name (BadFile other) = ⊥
-RefusesFile before after name NoMemory = IsUnasked before after ⊎ AsksFor before after name
+RefusesFile before after name NoMemory = IsUnasked before after
 
 -- the image's file was read, and its bytes are refused for this
 abbrev pub RefusesRead : ShelfState → ShelfState → ImageFile → Refusal → Type 0

@@ -163,12 +163,17 @@ mod tests {
         let folder = env::temp_dir(&rt)?;
         let id = process::id(rt.process());
         let path = format!(in alloc; "{}/vx_top-{id}", folder.as_path().display())?;
-        let bytes = vec![in alloc; 7u8; 5000]?;
+        let mut bytes = vec![in alloc; 0u8; 5000]?;
+        for i in 0..5000 {
+            bytes[i] = (i % 251) as u8;
+        }
         fs::write(&rt, path.as_str(), bytes.as_slice())?;
         let mut shelf = FileShelf::new(alloc, &rt);
         let whole = shelf.fetch(alloc, path.as_str(), 5000)?;
         let long = shelf.fetch(alloc, path.as_str(), 4999)?;
         let received = shelf.received;
+        fs::write(&rt, path.as_str(), b"".as_slice())?;
+        let empty = shelf.fetch(alloc, path.as_str(), 5000)?;
         fs::remove_file(&rt, path.as_str())?;
         let absent = shelf.fetch(alloc, path.as_str(), 5000)?;
         match &whole {
@@ -177,9 +182,13 @@ mod tests {
         }
         assert!(rt; matches!(&long, Fetched::TooLong));
         assert_eq!(rt; received, 5000);
+        match &empty {
+            Fetched::Got(got) => assert_eq!(rt; got.len(), 0),
+            _ => assert!(rt; false),
+        }
         assert!(rt; matches!(&absent, Fetched::Failed));
         assert_eq!(rt; shelf.faults, 1);
-        assert_eq!(rt; shelf.asked.len(), 3);
+        assert_eq!(rt; shelf.asked.len(), 4);
         Ok(())
     }
 

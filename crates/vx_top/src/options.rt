@@ -32,11 +32,14 @@ fn budget(given: Option<u64>) -> u64
 /// The options that the words of a run ask for; one that they don't give has its default.
 pub fn options_for(run: &RunWords) -> Options
     requires in_range { AreInRange run.now }
+    ensures vlen { result.vlen ≡ 256 }
     ensures lanes { result.lanes ≡ unwrap_or run.now.lanes 1 }
     ensures banks { result.banks ≡ 8 }
     ensures bank_time { result.bank_time ≡ 4 }
     ensures window { result.window ≡ unwrap_or run.now.window 1 }
     ensures slice { result.slice ≡ 10000 }
+    ensures frames { result.frames ≡ 4096 }
+    ensures slots { result.slots ≡ 8192 }
     ensures budget { result.budget ≡ unwrap_or run.now.budget 1000000000 }
     ensures alone { result.window ≡ 1 }
 {
