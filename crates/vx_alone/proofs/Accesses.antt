@@ -17,7 +17,8 @@ use Rattle.vx_scalar.specs.Operands.{is_access_width}
 use Rattle.vx_image.specs.Kept.{pages_of, entry_at, IsRising, IsPlaceOf, Lacks}
 use Rattle.vx_alone.specs.Granted.{IsGrantedAt}
 use Rattle.vx_alone.proofs.Numbers.{put_next}
-use Rattle.vx_alone.proofs.Pages.{page_absent, permissions_at, byte_in_page, put_in_page}
+use Rattle.vx_image.proofs.PagesAt.{absent_by}
+use Rattle.vx_alone.proofs.Pages.{permissions_at, byte_in_page, put_in_page}
 
 -- an address that isn't canonical is let through nowhere
 pub denied_outside : (memory : Memory) (address : ℕ) (want : Want) → is_canonical address ≡ false → permits memory address want ≡ false
@@ -27,7 +28,7 @@ denied_outside memory address want outside = rw outside refl
 pub denied_unmapped : (entries : List PageEntry) (address : ℕ) (want : Want) → Lacks entries (page_of address) → (bytes : List ℕ) → permits (pages_of entries bytes) address want ≡ false
 unfolding pages_of
 denied_unmapped entries address want lacks bytes =
-    rw (page_absent 4096 entries bytes (page_of address) lacks) (and-false (is_canonical address))
+    rw (absent_by 4096 entries bytes (page_of address) lacks) (and-false (is_canonical address))
 
 module _ (entries : List PageEntry) (rising : IsRising entries) (address k : ℕ) (place : IsPlaceOf entries (page_of address) k) where
   -- an access is let through as the permissions at the place say

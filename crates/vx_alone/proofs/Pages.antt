@@ -1,51 +1,27 @@
 -- What a list of pages holds at an address.
-use Rattle.std.proofs.Common.{◌≡◌, ℕ, zero, suc, ◌+◌, ◌*◌, ◌<◌, Bool, false, eqb, List, [], ◌∷◌, get_or, take, drop, set, map, None, refl, sym, ap, ◌∙◌, arith}
+use Rattle.std.proofs.Common.{◌≡◌, ℕ, zero, suc, ◌+◌, ◌*◌, ◌<◌, Bool, false, List, [], ◌∷◌, get_or, take, drop, set, map, refl, sym, ap, ◌∙◌, arith}
 use Rattle.std.proofs.lemmas.Bool.{eq-eqb, ne_eqb}
 use Rattle.std.proofs.lemmas.List.{get_or-take, get_or-drop, take-set-le, drop-set-lt, drop-set-add}
 use Rattle.std.proofs.Math.Seq.{take-set-lt}
 use Rattle.std.specs.Option.{option_map_or}
+use Rattle.std.specs.Prelude.{Option}
 use Rattle.vx_base.specs.declared.perm.PageEntry.{PageEntry}
 use Rattle.vx_image.specs.Pages.{Memory, MappedPage, page_numbered}
 use Rattle.vx_flat.specs.Memory.{with_byte}
 use Rattle.vx_image.specs.Kept.{pages_by, entry_at, IsRising, IsPlaceOf, Lacks}
-
--- a page that no entry has is not mapped
-pub page_absent : (size : ℕ) (entries : List PageEntry) (bytes : List ℕ) (page : ℕ) → Lacks entries page → page_numbered page (pages_by size entries bytes) ≡ None
-unfolding pages_by
-page_absent size [] bytes page lacks = refl
-page_absent size (entry ∷ entries) bytes page lacks =
-    rw (ne_eqb entry.page page (lacks 0 (omega arith))) (page_absent size entries (drop size bytes) page (λ i within. lacks (suc i) (omega arith)))
-
-rising_tail : (entry : PageEntry) (entries : List PageEntry) → IsRising (entry ∷ entries) → IsRising entries
-rising_tail entry entries rising i j below within = rising (suc i) (suc j) (omega arith) (omega arith)
-
-place_tail : (entry : PageEntry) (entries : List PageEntry) (page k : ℕ) → IsPlaceOf (entry ∷ entries) page (suc k) → IsPlaceOf entries page k
-place_tail entry entries page k place = record { within = omega (arith, place.within); same = place.same }
-
--- an entry before the place is of another page
-first_differs : (entry : PageEntry) (entries : List PageEntry) (page k : ℕ) → IsRising (entry ∷ entries) → IsPlaceOf (entry ∷ entries) page (suc k) → eqb entry.page page ≡ false
-first_differs entry entries page k rising place =
-    ne_eqb entry.page page (λ same. omega (arith, rising 0 (suc k) (omega arith) place.within, place.same))
+use Rattle.vx_image.proofs.PagesAt.{at_by, rising_tail, place_tail, first_differs}
 
 -- the permissions of a page are those of its entry
 pub permissions_at : (size : ℕ) (f : ℕ → Bool) (entries : List PageEntry) (bytes : List ℕ) (page k : ℕ) → IsRising entries → IsPlaceOf entries page k → option_map_or (λ (p : MappedPage). f p.permissions) (page_numbered page (pages_by size entries bytes)) false ≡ f (entry_at entries k).perm.bits
-unfolding pages_by
-permissions_at size f [] bytes page k rising place = absurd (omega (arith, place.within))
-permissions_at size f (entry ∷ entries) bytes page zero rising place = rw (eq-eqb entry.page page place.same) refl
-permissions_at size f (entry ∷ entries) bytes page (suc k) rising place =
-    rw (first_differs entry entries page k rising place) (permissions_at size f entries (drop size bytes) page k (rising_tail entry entries rising) (place_tail entry entries page k place))
+permissions_at size f entries bytes page k rising place =
+    ap (λ (o : Option MappedPage). option_map_or (λ (p : MappedPage). f p.permissions) o false) (at_by size entries bytes page k rising place)
 
 -- byte j of the page at place k is byte size * k + j of all
 pub byte_in_page : (size j : ℕ) → j < size → (entries : List PageEntry) (bytes : List ℕ) (page k : ℕ) → IsRising entries → IsPlaceOf entries page k → option_map_or (λ (p : MappedPage). get_or p.bytes j 0) (page_numbered page (pages_by size entries bytes)) 0 ≡ get_or bytes (size * k + j) 0
-unfolding pages_by
-byte_in_page size j below [] bytes page k rising place = absurd (omega (arith, place.within))
-byte_in_page size j below (entry ∷ entries) bytes page zero rising place =
-    rw (eq-eqb entry.page page place.same) (get_or-take size bytes j 0 below ∙ ap (λ (n : ℕ). get_or bytes n 0) (omega arith))
-byte_in_page size j below (entry ∷ entries) bytes page (suc k) rising place =
-    rw (first_differs entry entries page k rising place)
-    (byte_in_page size j below entries (drop size bytes) page k (rising_tail entry entries rising) (place_tail entry entries page k place)
-    ∙ get_or-drop size bytes (size * k + j) 0
-    ∙ ap (λ (n : ℕ). get_or bytes n 0) (omega arith))
+byte_in_page size j below entries bytes page k rising place =
+    ap (λ (o : Option MappedPage). option_map_or (λ (p : MappedPage). get_or p.bytes j 0) o 0) (at_by size entries bytes page k rising place)
+    ∙ get_or-take size (drop (size * k) bytes) j 0 below
+    ∙ get_or-drop (size * k) bytes j 0
 
 -- setting a byte of a page that no entry has changes nothing
 put_absent : (size j byte : ℕ) (entries : List PageEntry) (bytes : List ℕ) (page : ℕ) → Lacks entries page → map (with_byte page j byte) (pages_by size entries bytes) ≡ pages_by size entries bytes

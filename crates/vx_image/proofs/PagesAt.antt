@@ -10,25 +10,25 @@ use Rattle.vx_image.specs.Images.{is_code}
 use Rattle.vx_image.specs.Kept.{pages_by, pages_of, entry_at, IsRising, IsPlaceOf, Lacks}
 
 -- a page that no entry has is not mapped
-absent_by : (size : ℕ) (entries : List PageEntry) (bytes : List ℕ) (page : ℕ) → Lacks entries page → page_numbered page (pages_by size entries bytes) ≡ None
+pub absent_by : (size : ℕ) (entries : List PageEntry) (bytes : List ℕ) (page : ℕ) → Lacks entries page → page_numbered page (pages_by size entries bytes) ≡ None
 unfolding pages_by
 absent_by size [] bytes page lacks = refl
 absent_by size (entry ∷ entries) bytes page lacks =
     rw (ne_eqb entry.page page (lacks 0 (omega arith))) (absent_by size entries (drop size bytes) page (λ i within. lacks (suc i) (omega arith)))
 
-rising_tail : (entry : PageEntry) (entries : List PageEntry) → IsRising (entry ∷ entries) → IsRising entries
+pub rising_tail : (entry : PageEntry) (entries : List PageEntry) → IsRising (entry ∷ entries) → IsRising entries
 rising_tail entry entries rising i j below within = rising (suc i) (suc j) (omega arith) (omega arith)
 
-place_tail : (entry : PageEntry) (entries : List PageEntry) (page k : ℕ) → IsPlaceOf (entry ∷ entries) page (suc k) → IsPlaceOf entries page k
+pub place_tail : (entry : PageEntry) (entries : List PageEntry) (page k : ℕ) → IsPlaceOf (entry ∷ entries) page (suc k) → IsPlaceOf entries page k
 place_tail entry entries page k place = record { within = omega (arith, place.within); same = place.same }
 
 -- an entry before the place is of another page
-first_differs : (entry : PageEntry) (entries : List PageEntry) (page k : ℕ) → IsRising (entry ∷ entries) → IsPlaceOf (entry ∷ entries) page (suc k) → eqb entry.page page ≡ false
+pub first_differs : (entry : PageEntry) (entries : List PageEntry) (page k : ℕ) → IsRising (entry ∷ entries) → IsPlaceOf (entry ∷ entries) page (suc k) → eqb entry.page page ≡ false
 first_differs entry entries page k rising place =
     ne_eqb entry.page page (λ same. omega (arith, rising 0 (suc k) (omega arith) place.within, place.same))
 
 -- the page of an entry is the part of the bytes at its place
-at_by : (size : ℕ) (entries : List PageEntry) (bytes : List ℕ) (page k : ℕ) → IsRising entries → IsPlaceOf entries page k → page_numbered page (pages_by size entries bytes) ≡ Some (record { number = (entry_at entries k).page; permissions = (entry_at entries k).perm.bits; bytes = take size (drop (size * k) bytes) })
+pub at_by : (size : ℕ) (entries : List PageEntry) (bytes : List ℕ) (page k : ℕ) → IsRising entries → IsPlaceOf entries page k → page_numbered page (pages_by size entries bytes) ≡ Some (record { number = (entry_at entries k).page; permissions = (entry_at entries k).perm.bits; bytes = take size (drop (size * k) bytes) })
 unfolding pages_by
 at_by size [] bytes page k rising place = absurd (omega (arith, place.within))
 at_by size (entry ∷ entries) bytes page zero rising place =
