@@ -9,8 +9,6 @@ mod alone;
 mod arch;
 mod memory;
 mod service;
-#[cfg(test)]
-mod tests;
 mod turn;
 
 pub use alone::Alone;

@@ -17,8 +17,6 @@ mod page_list;
 mod perm;
 mod shelf;
 mod sink;
-#[cfg(test)]
-mod tests;
 mod text;
 
 pub use bytes::Bytes;

@@ -18,6 +18,3 @@ pub use arithmetic::{
 pub use rounding::round;
 pub use saturation::{Sat, fit_at, sadd_at, saddu_at, ssub_at, ssubu_at};
 pub use shifts::{sll_at, sra_at, srl_at};
-
-#[cfg(test)]
-mod tests;

@@ -6,8 +6,6 @@
 
 mod line;
 mod listing;
-#[cfg(test)]
-mod tests;
 
 pub use line::line_of;
 pub use listing::{ListingFault, write_listing};

@@ -12,8 +12,6 @@ mod program;
 mod read;
 mod segment;
 mod segments;
-#[cfg(test)]
-mod tests;
 mod write;
 
 pub use fault::ElfFault;

@@ -10,8 +10,6 @@ mod fault;
 mod frames;
 mod image;
 mod search;
-#[cfg(test)]
-mod tests;
 
 pub use fault::ImageFault;
 pub use image::{Contents, Image, image_of, raw_image};

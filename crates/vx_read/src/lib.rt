@@ -16,8 +16,6 @@ mod numbers;
 mod reader;
 mod run_words;
 mod settings;
-#[cfg(test)]
-mod tests;
 
 pub use asked::Asked;
 pub use image_word::ImageWord;

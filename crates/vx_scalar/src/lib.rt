@@ -13,8 +13,6 @@ mod jump;
 mod multiply;
 mod reading;
 mod regs;
-#[cfg(test)]
-mod tests;
 
 pub use access::{access_width, loaded};
 pub use effects::{scalar, scalar_address};

@@ -7,8 +7,6 @@
 mod episode;
 mod report;
 mod system;
-#[cfg(test)]
-mod tests;
 mod timing;
 
 pub use report::stop_word;

@@ -15,8 +15,6 @@ mod out_sink;
 mod refusal;
 mod run;
 mod tell;
-#[cfg(test)]
-mod tests;
 
 pub use call::vexec;
 pub use file_shelf::FileShelf;

@@ -1,0 +1,31 @@
+use std::alloc::{AllocError, Global};
+use std::test::Fail;
+use vx_read::{Asked, ImageWord, RunWords, first_bad_word_is_one, read, words_ask_for_one_command};
+
+/// The words that lie between spaces.
+pub fn words_of(alloc: Global, line: &str) -> Result<Vec<String>, AllocError> {
+    let mut words = Vec::new(alloc);
+    for word in line.split_whitespace() {
+        words.push(String::from_str(alloc, word)?)?;
+    }
+    Ok(words)
+}
+
+#[test]
+fn words_are_read(rt: HostRuntime) -> Result<(), Fail> {
+    let words = words_of(rt.alloc(), "run --budget=70 --lanes 1 --window=1 raw:hi")?;
+    let all = RunWords {
+        window: Some(1),
+        lanes: Some(1),
+        budget: Some(70),
+        image: ImageWord::Raw("hi"),
+    };
+    assert_eq!(rt; read(words.as_slice()), Ok(Asked::Run(all)));
+    let words = words_of(rt.alloc(), "dis raw:f")?;
+    assert_eq!(rt; read(words.as_slice()), Ok(Asked::Dis("raw:f")));
+    let words = words_of(rt.alloc(), "run --budget=5 --budget 6")?;
+    assert_eq!(rt; read(words.as_slice()), Err(2));
+    words_ask_for_one_command();
+    first_bad_word_is_one();
+    Ok(())
+}
