@@ -1,11 +1,10 @@
 -- What a program header without a fault keeps.
-use Rattle.std.proofs.Common.{◌≡◌, ℕ, ◌+◌, ◌*◌, ◌%◌, ◌<◌, ◌≤◌, Bool, true, false, not, eqb, leb, ltb, ◌||◌, ◌&&◌, if◌then◌else◌, List, [], ◌∷◌, ◌++◌, length, drop, take, Option, Some, None, option_map, find, refl, sym, ap, ◌∙◌, arith}
+use Rattle.std.proofs.Common.{◌≡◌, ℕ, ◌+◌, ◌≤◌, Bool, true, false, eqb, ltb, ◌||◌, if◌then◌else◌, List, [], ◌∷◌, ◌++◌, length, Option, Some, None, option_map, find, refl, sym, ap, ◌∙◌, arith}
 use Rattle.std.proofs.lemmas.Bool.{ltb-false}
 use Rattle.std.proofs.lemmas.List.Sums.{sum_by_push}
 use Rattle.vx_elf.specs.Layout.{header_at}
 use Rattle.vx_elf.specs.Segments.{segments_end, segments_room, total_size}
 use Rattle.vx_elf.specs.Reading.{is_segment, is_bad_range, meets, segment_of, segments_under, segment_fault, header_fault, TakesHeader}
-use Rattle.vx_elf.specs.declared.fault.ElfFault.{ElfFault}
 use Rattle.vx_elf.specs.declared.fault.ElfFault.TheVariants.{Short, Interp, BadRange, Overlap}
 use Rattle.vx_elf.specs.declared.header.ProgramHeader.{ProgramHeader}
 use Rattle.vx_elf.specs.declared.segment.Segment.{Segment}

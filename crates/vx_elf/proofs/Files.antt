@@ -1,12 +1,10 @@
 -- What the reading of a file answers at each of its three parts.
 use Rattle.std.proofs.Common.{◌≡◌, ℕ, List, Some, None, Ok, Err, refl}
-use Rattle.std.specs.Option.{option_or}
 use Rattle.vx_elf.specs.Layout.{entry_point, header_count}
 use Rattle.vx_elf.specs.Reading.{kind_fault, table_fault, headers_fault, segments_of, elf_fault, segments_in, Reads, ReadsHeaders}
 use Rattle.vx_elf.specs.declared.fault.ElfFault.{ElfFault}
 use Rattle.vx_elf.specs.declared.fault.ElfFault.TheVariants.{NoMemory}
 use Rattle.vx_elf.specs.declared.segment.Segment.{Segment}
-use Rattle.vx_elf.specs.declared.segments.Segments.{Segments}
 
 -- a file's first fault is what the reading answers
 answers : (bytes : List ℕ) (fault : ElfFault) → elf_fault bytes ≡ Some fault → Reads bytes (Err fault)

@@ -4,4 +4,5 @@ pub mod Files
 pub mod Listed
 pub mod Placed
 pub mod RoundTrip
+pub mod Spans
 pub mod Written

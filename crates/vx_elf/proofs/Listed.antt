@@ -1,14 +1,14 @@
 -- The segments of headers without a fault are kept as a list of segments is.
-use Rattle.std.proofs.Common.{◌≡◌, ℕ, zero, suc, ◌+◌, ◌*◌, ◌%◌, ◌<◌, ◌≤◌, Bool, true, false, not, eqb, ◌&&◌, ◌⊎◌, inl, inr, List, [], ◌∷◌, ◌++◌, length, take, drop, get_or, zero-add, suc-add, ◌-◌, Option, Some, None, Err, find, refl, sym, ap, ◌∙◌, add-one, append-nil, arith}
+use Rattle.std.proofs.Common.{◌≡◌, ℕ, zero, suc, ◌+◌, ◌%◌, ◌<◌, ◌≤◌, Bool, true, false, not, eqb, ◌&&◌, inl, inr, List, [], ◌∷◌, ◌++◌, length, take, drop, get_or, zero-add, suc-add, ◌-◌, Option, Some, None, Err, find, refl, sym, ap, ◌∙◌, add-one, append-nil, arith}
 use Rattle.std.proofs.lemmas.Bool.{cases_Bool}
 use Rattle.std.proofs.lemmas.List.{length-take}
 use Rattle.std.proofs.lemmas.List.Elements.{All-push}
 use Rattle.std.proofs.lemmas.List.Quantifiers.{all_pairs_push}
 use Rattle.std.proofs.lemmas.List.Sums.{sum_by_push}
-use Rattle.std.specs.List.{All, AllPairs}
+use Rattle.std.specs.List.{All}
 use Rattle.std.specs.Option.{option_or}
 use Rattle.vx_elf.specs.Layout.{header_at}
-use Rattle.vx_elf.specs.Segments.{ranges_meet, is_segment_permission, total_size, segments_room, IsSegment, IsSegmentList}
+use Rattle.vx_elf.specs.Segments.{ranges_meet, is_segment_permission, IsSegment, IsSegmentList}
 use Rattle.vx_elf.specs.Reading.{is_segment, with_read, meets, segment_of, segments_under, segments_of, header_fault, headers_fault, ReadsHeader, ReadsHeaders}
 use Rattle.vx_elf.specs.declared.fault.ElfFault.{ElfFault}
 use Rattle.vx_elf.specs.declared.fault.ElfFault.TheVariants.{NoMemory}

@@ -1,11 +1,11 @@
 -- Where the parts of a written file stand, and what is read there.
-use Rattle.std.proofs.Common.{◌≡◌, ℕ, zero, suc, ◌+◌, ◌-◌, ◌*◌, ◌/◌, ◌%◌, ◌^◌, ◌<◌, ◌≤◌, min, Bool, true, false, if◌then◌else◌, List, [], ◌∷◌, ◌++◌, length, take, drop, replicate, refl, sym, ap, ◌∙◌, append_assoc, length-append, arith}
+use Rattle.std.proofs.Common.{◌≡◌, ℕ, zero, suc, ◌+◌, ◌-◌, ◌*◌, ◌/◌, ◌^◌, ◌<◌, ◌≤◌, Bool, true, false, if◌then◌else◌, List, [], ◌∷◌, ◌++◌, length, take, drop, replicate, refl, sym, ap, ◌∙◌, length-append, arith}
 use Rattle.std.specs.List.{flat_map}
 use Rattle.std.proofs.Math.Nat.{pow-suc}
 use Rattle.std.proofs.lemmas.List.{drop_at, drop-drop, length-replicate}
 use Rattle.vx_base.specs.Numbers.{little_endian, from_little_endian}
-use Rattle.vx_elf.specs.Layout.{number_at, header_from, header_at, table_place, header_place}
-use Rattle.vx_elf.specs.Writing.{file_header, program_header, headers_of, code_header, vars_header, has_code, has_vars, filled_to, written_start, whole_pages, IsWritable}
+use Rattle.vx_elf.specs.Layout.{number_at, header_from}
+use Rattle.vx_elf.specs.Writing.{file_header, program_header, headers_of, code_header, vars_header, has_code, has_vars, filled_to, written_start}
 use Rattle.vx_elf.specs.declared.header.ProgramHeader.{ProgramHeader}
 use Rattle.vx_elf.specs.declared.program.Program.{Program}
 

@@ -1,22 +1,19 @@
 -- What is written of a program is read again as its segments.
-use Rattle.std.proofs.Common.{◌≡◌, ℕ, zero, suc, ◌+◌, ◌-◌, ◌*◌, ◌/◌, ◌%◌, ◌^◌, ◌<◌, ◌≤◌, Bool, true, false, not, ◌&&◌, ◌||◌, eqb, ltb, nat_eq, if◌then◌else◌, inl, inr, List, [], ◌∷◌, ◌++◌, length, take, drop, replicate, find, Option, Some, None, option_map, refl, sym, ap, ◌∙◌, append_assoc, append-nil, length-append, arith}
-use Rattle.std.specs.List.{flat_map, starts_with}
+use Rattle.std.proofs.Common.{◌≡◌, ℕ, ◌+◌, ◌*◌, ◌%◌, ◌^◌, ◌<◌, ◌≤◌, true, false, eqb, ltb, nat_eq, List, [], ◌∷◌, ◌++◌, length, take, drop, find, Option, None, refl, ap, ◌∙◌, length-append, arith}
+use Rattle.std.specs.List.{starts_with}
 use Rattle.std.specs.Option.{option_or}
-use Rattle.std.proofs.lemmas.Bool.{cases_Bool, ne_eqb}
+use Rattle.std.proofs.lemmas.Bool.{ne_eqb}
 use Rattle.std.proofs.lemmas.Bool.Decides.{nat_tests}
-use Rattle.std.proofs.lemmas.Grind.{div_ceil_times}
-use Rattle.std.proofs.lemmas.List.{drop_at, take_at, take_all, length-replicate}
-use Rattle.vx_elf.specs.Layout.{number_at, file_type, machine, entry_point, table_place, file_flags, header_size, header_count, header_from, header_at}
-use Rattle.vx_elf.specs.Segments.{ranges_meet, segments_end, segments_room, total_size}
-use Rattle.vx_elf.specs.Reading.{magic, kind_fault, table_fault, is_segment, is_bad_range, meets, segment_of, segment_fault, header_fault, segments_under, segments_of, headers_fault, elf_fault, segments_in}
-use Rattle.vx_elf.specs.Writing.{file_header, program_header, headers_of, code_header, vars_header, has_code, has_vars, filled_to, whole_pages, vars_place, vars_address, written_start, written, code_segment, vars_segment, program_list, program_segments, IsWritable}
+use Rattle.std.proofs.lemmas.List.{drop_at, take_at}
+use Rattle.vx_elf.specs.Layout.{number_at, file_type, machine, entry_point, table_place, file_flags, header_size, header_count, header_at}
+use Rattle.vx_elf.specs.Segments.{segments_end, segments_room, total_size}
+use Rattle.vx_elf.specs.Reading.{magic, kind_fault, table_fault, is_segment, meets, segment_of, segment_fault, header_fault, segments_under, segments_of, headers_fault}
+use Rattle.vx_elf.specs.Writing.{file_header}
 use Rattle.vx_elf.specs.declared.fault.ElfFault.{ElfFault}
 use Rattle.vx_elf.specs.declared.header.ProgramHeader.{ProgramHeader}
-use Rattle.vx_elf.specs.declared.program.Program.{Program}
 use Rattle.vx_elf.specs.declared.segment.Segment.{Segment}
-use Rattle.vx_elf.specs.declared.segments.Segments.{Segments}
 use Rattle.vx_elf.proofs.Faults.{under_segment}
-use Rattle.vx_elf.proofs.Placed.{read_back, length-file_header, length-program_header, length-headers, length-head, length-filled, length-start, few_headers, Fits, header_there}
+use Rattle.vx_elf.proofs.Placed.{read_back, length-file_header}
 
 -- what is read of the file header
 module _ (entry count : ℕ) (rest : List ℕ) where

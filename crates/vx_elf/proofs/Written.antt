@@ -1,5 +1,5 @@
 -- What is written of a program is read again as its segments.
-use Rattle.std.proofs.Common.{◌≡◌, ℕ, ◌+◌, ◌-◌, ◌*◌, ◌^◌, ◌<◌, ◌≤◌, Bool, true, false, not, ◌&&◌, eqb, ltb, if◌then◌else◌, inl, inr, List, [], ◌∷◌, ◌++◌, length, take, drop, replicate, find, Option, Some, None, refl, sym, ap, ◌∙◌, append_assoc, append-nil, length-append, arith}
+use Rattle.std.proofs.Common.{◌≡◌, ℕ, ◌+◌, ◌-◌, ◌*◌, ◌^◌, ◌<◌, ◌≤◌, true, false, ltb, inl, inr, List, [], ◌∷◌, ◌++◌, length, take, drop, replicate, find, Option, None, refl, sym, ap, ◌∙◌, append_assoc, append-nil, length-append, arith}
 use Rattle.std.specs.List.{flat_map}
 use Rattle.std.specs.Option.{option_or}
 use Rattle.std.proofs.Math.Bool.{and-false}
@@ -16,7 +16,7 @@ use Rattle.vx_elf.specs.declared.program.Program.{Program}
 use Rattle.vx_elf.specs.declared.segment.Segment.{Segment}
 use Rattle.vx_elf.specs.declared.segments.Segments.{Segments}
 use Rattle.vx_elf.proofs.Listed.{not_zero}
-use Rattle.vx_elf.proofs.Placed.{length-file_header, length-program_header, length-headers, length-head, length-filled, length-start, few_headers, Fits, header_there}
+use Rattle.vx_elf.proofs.Placed.{length-file_header, length-program_header, length-headers, length-head, length-filled, length-start, Fits, header_there}
 use Rattle.vx_elf.proofs.RoundTrip.{place_there, count_there, entry_there, kind_none, table_none, IsLoadable, part_there, none_read, one_read, two_read}
 
 -- the first program header, and the second

@@ -12,6 +12,7 @@ mod program;
 mod read;
 mod segment;
 mod segments;
+mod taken;
 mod write;
 
 pub use fault::ElfFault;

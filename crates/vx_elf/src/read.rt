@@ -1,6 +1,7 @@
 ghost use Rattle.std.specs.Prelude.{◌≡◌, ◌+◌, ◌*◌, ◌<◌, ◌≤◌, ◌%◌, ◌++◌, ℕ, length, find, option_copied, None, IfOk};
 ghost use Rattle.vx_elf.specs.Layout.{header_at, header_place, header_count};
 ghost use Rattle.vx_elf.specs.Segments.{ranges_meet, segments_room, total_size, IsSegmentList};
+ghost use Rattle.vx_elf.specs.Taken.{IsHeld};
 ghost use Rattle.vx_elf.specs.Reading.{Reads, ReadsHeaders, ReadsHeader, kind_fault, table_fault, header_fault, segment_fault, headers_fault, is_segment, with_read, segment_of, segments_of, segments_under, is_bad_range, meets};
 
 use crate::fault::ElfFault;
@@ -10,6 +11,7 @@ use crate::header::{
 };
 use crate::segment::Segment;
 use crate::segments::{SegmentList, Segments};
+use crate::taken::{Taken, is_free, nothing, taken_up};
 use bitflags::Flags;
 use std::alloc::{AllocError, Global};
 use vx_base::{Bytes, Perm};
@@ -119,9 +121,11 @@ fn read_headers(alloc: Global, bytes: &[u8]) -> Result<SegmentList, ElfFault>
     ensures { ReadsHeaders bytes.now (header_count bytes.now) result }
 {
     let mut items = Vec::new(alloc);
+    let mut taken = nothing(alloc);
     let mut total = 0;
     for index in 0..u32::from(header_count(bytes)) {
-        total = read_header(alloc, bytes, index, total, &mut items)?;
+        total = read_header(alloc, bytes, index, total, &taken, &mut items)?;
+        taken = taken_up(alloc, taken, &items)?;
     }
     Ok(SegmentList::of(items))
 }
@@ -134,16 +138,18 @@ fn read_header(
     bytes: &[u8],
     index: u32,
     total: u64,
+    taken: &Taken,
     items: &mut Vec<Segment>,
 ) -> Result<u64, ElfFault>
     requires long { 64 ≤ length bytes.now }
     requires place { header_place bytes.now index + 56 ≤ length bytes.now }
     requires sum { total ≡ total_size items.old.items }
+    requires held { IsHeld taken.now.spans.items taken.now.count items.old.items }
     ensures { ReadsHeader bytes.now index items.old.items items.new.items result }
 {
     let place = table_place(bytes) + PROGRAM_HEADER * u64::from(index);
     let header = header_from(bytes, place as usize);
-    if let Some(fault) = header_fault(bytes, items, index, &header, total) {
+    if let Some(fault) = header_fault(bytes, items, index, &header, total, taken) {
         return Err(fault);
     }
     if !is_segment(&header) {
@@ -168,15 +174,17 @@ fn header_fault(
     index: u32,
     header: &ProgramHeader,
     total: u64,
+    taken: &Taken,
 ) -> Option<ElfFault>
-    requires { total ≡ total_size before.now }
+    requires sum { total ≡ total_size before.now }
+    requires held { IsHeld taken.now.spans.items taken.now.count before.now }
     ensures { result ≡ header_fault bytes.now before.now index header.now }
 {
     if header.kind == INTERPRETER {
         return Some(ElfFault::Interp(index));
     }
     if is_segment(header) {
-        return segment_fault(bytes, before, index, header, total);
+        return segment_fault(bytes, before, index, header, total, taken);
     }
     None
 }
@@ -189,8 +197,10 @@ fn segment_fault(
     index: u32,
     header: &ProgramHeader,
     total: u64,
+    taken: &Taken,
 ) -> Option<ElfFault>
-    requires { total ≡ total_size before.now }
+    requires sum { total ≡ total_size before.now }
+    requires held { IsHeld taken.now.spans.items taken.now.count before.now }
     ensures { result ≡ segment_fault bytes.now before.now index header.now }
 {
     if is_bad_range(total, header) {
@@ -201,7 +211,7 @@ fn segment_fault(
     if u128::from(have) < need {
         return Some(ElfFault::Short(need, have));
     }
-    let segment = first_met(before, header)?;
+    let segment = first_met(before, header, taken)?;
     Some(ElfFault::Overlap(segment.index, index))
 }
 
@@ -215,8 +225,24 @@ fn is_bad_range(total: u64, header: &ProgramHeader) -> bool
         || u128::from(total) + size > SEGMENTS_ROOM
 }
 
+/// The first segment that the memory of a header meets. Those that are taken are passed over where it meets none of them.
+fn first_met<'a>(
+    segments: &'a [Segment],
+    header: &ProgramHeader,
+    taken: &Taken,
+) -> Option<&'a Segment>
+    requires { IsHeld taken.now.spans.items taken.now.count segments.now }
+    ensures { option_copied result ≡ find (meets header.now) segments.now }
+{
+    if is_free(&taken.spans, header) {
+        first_met_of(&segments[taken.count..], header)
+    } else {
+        first_met_of(segments, header)
+    }
+}
+
 /// The first segment that the memory of a header meets.
-fn first_met<'a>(segments: &'a [Segment], header: &ProgramHeader) -> Option<&'a Segment>
+fn first_met_of<'a>(segments: &'a [Segment], header: &ProgramHeader) -> Option<&'a Segment>
     ensures { option_copied result ≡ find (meets header.now) segments.now }
 {
     for segment in segments {

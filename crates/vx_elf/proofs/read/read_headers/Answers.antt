@@ -5,6 +5,7 @@ use Rattle.vx_elf.specs.Layout.{header_count, header_at}
 use Rattle.vx_elf.specs.Segments.{total_size}
 use Rattle.vx_elf.specs.Reading.{header_fault, segments_under}
 use Rattle.vx_elf.specs.declared.segment.Segment.{Segment}
+use Rattle.vx_elf.proofs.Spans.{none_held, more_held}
 use Rattle.vx_elf.proofs.Listed.{is_list, no_headers, one_more, one_more_segments, carries}
 use Rattle.vx_elf.proofs.read.read_headers.Goals as goal
 
@@ -15,6 +16,7 @@ loop-index-init c =
       faultless = start.faultless;
       segments = c.new-items.ensures.items ∙ sym start.segments;
       total = sym (ap total_size c.new-items.ensures.items);
+      held = rw c.nothing-taken.ensures.count (none_held c.nothing-taken.result.spans.items c.new-items.result.items c.nothing-taken.ensures.spans);
     }
 
 pub returns-in_err-total : goal.returns-in_err-total
@@ -36,7 +38,16 @@ loop-index-preserved c =
           ∙ ap (λ (segments : List Segment). segments ++ segments_under bytes index (header_at bytes index)) before.segments
           ∙ sym (one_more_segments bytes index);
       total = taken.total;
+      held = rw c.deref.ensures.value at c.in_ok-taken.ensures;
     }
+
+pub read_header-requires-clause-held : goal.read_header-requires-clause-held
+read_header-requires-clause-held c = c.loop-index.invariant.held
+
+pub taken_up-requires : goal.taken_up-requires
+taken_up-requires c =
+    let more = segments_under c.args.bytes.now c.loop-index.index (header_at c.args.bytes.now c.loop-index.index) in
+    rw (c.deref.ensures.value, c.in_ok-total.ensures.segments) (more_held c.loop-index.taken.spans.items c.loop-index.taken.count c.loop-index.items.items more c.loop-index.invariant.held)
 
 pub of-requires : goal.of-requires
 of-requires c =

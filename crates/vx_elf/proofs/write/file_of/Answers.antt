@@ -1,5 +1,5 @@
 -- The variables stand behind the code.
-use Rattle.std.proofs.Common.{◌≡◌, length, ap, ◌∙◌, arith}
+use Rattle.std.proofs.Common.{length, ap, arith}
 use Rattle.std.proofs.lemmas.Grind.{div_ceil_times}
 use Rattle.vx_elf.proofs.Placed.{length-start}
 use Rattle.vx_elf.proofs.write.file_of.Goals as goal

@@ -1,5 +1,5 @@
 -- There are two headers at most, and they stand before byte 4,096.
-use Rattle.std.proofs.Common.{◌≡◌, ℕ, [], ◌++◌, List, length, ap, ◌∙◌, arith}
+use Rattle.std.proofs.Common.{◌≡◌, ℕ, ◌++◌, List, length, ap, ◌∙◌, arith}
 use Rattle.std.specs.List.{flat_map}
 use Rattle.vx_elf.specs.Writing.{file_header, program_header, headers_of}
 use Rattle.vx_elf.specs.declared.header.ProgramHeader.{ProgramHeader}
