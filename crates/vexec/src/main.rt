@@ -6,7 +6,8 @@ use std::env;
 use std::env::Env;
 use std::io::ErrorKind;
 use std::process::ExitCode;
-use vx_top::{FileShelf, OutSink, Status, vexec};
+use vx_files::{FileShelf, OutSink};
+use vx_top::{Status, vexec};
 
 /// The words of the command line, without the program's name. Words that aren't UTF-8 ask for nothing.
 fn words_of<R: Env + AllocGlobal>(rt: &R) -> Result<Vec<String>, Status> {

@@ -1,6 +1,6 @@
 ghost use Rattle.std.specs.Prelude.{◌≡◌, ◌<◌, ◌≤◌, ◌++◌, ◌∷◌, [], length, vec_len, vec_capacity, IfOk, OnOk, OnErr};
 ghost use Rattle.vx_base.specs.Shelf.{Fetches};
-ghost use Rattle.vx_top.specs.Adapters.{EndsWithin};
+ghost use Rattle.vx_files.specs.Adapters.{EndsWithin};
 
 use std::alloc::{AllocError, Global};
 use std::fs;
@@ -70,7 +70,7 @@ pub struct FileShelf<R: Files> {
 }
 
 impl<R: Files> Model for FileShelf<R> {
-    ghost use Rattle.vx_top.specs.Adapters.{FileShelfView};
+    ghost use Rattle.vx_files.specs.Adapters.{FileShelfView};
 
     ghost Value = { FileShelfView };
 
@@ -113,7 +113,7 @@ impl<R: Files> FileShelf<R> {
 }
 
 impl<R: Files> Shelf for FileShelf<R> {
-    ghost use Rattle.vx_top.specs.Adapters.{file_shelf_told};
+    ghost use Rattle.vx_files.specs.Adapters.{file_shelf_told};
 
     ghost state = { file_shelf_told };
 
@@ -162,7 +162,7 @@ mod tests {
         let alloc = rt.alloc();
         let folder = env::temp_dir(&rt)?;
         let id = process::id(rt.process());
-        let path = format!(in alloc; "{}/vx_top-{id}", folder.as_path().display())?;
+        let path = format!(in alloc; "{}/vx_files-{id}", folder.as_path().display())?;
         let mut bytes = vec![in alloc; 0u8; 5000]?;
         for i in 0..5000 {
             bytes[i] = (i % 251) as u8;

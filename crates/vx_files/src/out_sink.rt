@@ -44,7 +44,7 @@ impl<W: Write> OutSink<W> {
 }
 
 impl<W: Write> Sink for OutSink<W> {
-    ghost use Rattle.vx_top.specs.Adapters.{out_sink_told};
+    ghost use Rattle.vx_files.specs.Adapters.{out_sink_told};
 
     ghost state = { out_sink_told };
 

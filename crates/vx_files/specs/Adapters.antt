@@ -2,8 +2,8 @@
 use Rattle.std.specs.Prelude.{ℕ, ◌<◌, ◌≤◌, List, None}
 use Rattle.vx_base.specs.Shelf.{ShelfState}
 use Rattle.vx_base.specs.Sink.{SinkState}
-use Rattle.vx_top.specs.declared.file_shelf.Ended.{Ended}
-use Rattle.vx_top.specs.declared.file_shelf.Ended.TheVariants.{AtEnd, PastLimit, AtFault}
+use Rattle.vx_files.specs.declared.file_shelf.Ended.{Ended}
+use Rattle.vx_files.specs.declared.file_shelf.Ended.TheVariants.{AtEnd, PastLimit, AtFault}
 
 -- what a shelf of the system's files keeps
 pub record FileShelfView : Type 0 where
