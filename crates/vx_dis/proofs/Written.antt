@@ -1,9 +1,9 @@
 -- Texts that are put a piece at a time.
-use Rattle.std.proofs.Common.{◌≡◌, ℕ, ◌+◌, ◌≤◌, List, [], ◌++◌, length, take, refl, sym, ap, subst, append_assoc, append-nil, length-append, arith, ◌∙◌, inl, inr}
+use Rattle.std.proofs.Common.{◌≡◌, ℕ, ◌+◌, ◌≤◌, List, [], ◌++◌, length, take, refl, sym, ap, subst, append_assoc, append-nil, length-append, arith, ◌∙◌}
 use Rattle.std.proofs.Math.Seq.{take-append-add}
 use Rattle.std.proofs.lemmas.List.{take-append-le}
 use Rattle.std.specs.Prelude.{Option, Some, None, IfSome, Result, Ok, Err, IfErr, IsErrAnd}
-use Rattle.vx_base.specs.Sink.{SinkState, IsWritten, IsBegun, IsCutOff}
+use Rattle.vx_base.specs.Sink.{SinkState, IsWritten, IsBegun}
 use Rattle.vx_base.specs.Faults.{Rises}
 use Rattle.vx_dis.specs.Written.{Stops}
 use Rattle.vx_dis.specs.declared.listing.ListingFault.{ListingFault}

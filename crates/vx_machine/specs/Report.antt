@@ -1,5 +1,5 @@
 -- The report's bytes. This project's own.
-use Rattle.std.specs.Prelude.{ℕ, zero, suc, ◌+◌, List, [], ◌∷◌, ◌++◌, length, codes, decimal}
+use Rattle.std.specs.Prelude.{ℕ, ◌+◌, List, [], ◌∷◌, ◌++◌, length, codes, decimal}
 use Rattle.std.specs.Fmt.{signed_decimal}
 use Rattle.vx_base.specs.Hex.{hex_digits}
 use Rattle.vx_words.specs.Lines.{line}
