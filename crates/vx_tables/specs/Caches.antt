@@ -1,0 +1,2 @@
+-- Caches of translations. This project's own.
+use Rattle.std.specs.Prelude.{ℕ}

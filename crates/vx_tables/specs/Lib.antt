@@ -1,0 +1,6 @@
+pub mod Caches
+pub mod Entries
+pub mod Residency
+pub mod Tables
+pub mod Walking
+pub mod Walks
