@@ -86,3 +86,7 @@ pub record AreHeld (cells : CellsState) (first : ℕ) (residency : Residency) : 
 abbrev pub SameBut : (first count : ℕ) → (before after : List ℕ) → Type 0
 SameBut first count before after =
     (word : ℕ) → (nat_le (512 * first) word && nat_lt word (512 * (first + count))) ≡ false → slice_index after word ≡ slice_index before word
+
+-- the word of the leaf entry of a mapped page
+abbrev pub leaf_word : (first : ℕ) → List PageEntry → (number : ℕ) → ℕ
+leaf_word first pages number = 512 * leaf_frame first pages (number / mib2) + number % mib2

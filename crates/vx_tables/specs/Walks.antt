@@ -1,6 +1,6 @@
 -- The walk of the page tables: RISC-V Privileged 1.12, section 4.3.2, with the three levels of Sv39 (section 4.4). An entry
 -- above the leaves is followed or refused; a leaf may be away, which is this project's own.
-use Rattle.std.specs.Prelude.{ℕ, zero, suc, ◌+◌, ◌-◌, ◌*◌, ◌/◌, ◌^◌, Bool, true, false, ◌||◌, ◌==◌, List, [], ◌∷◌, ◌++◌, map, Option, Some, None, option_map, if◌then◌else◌}
+use Rattle.std.specs.Prelude.{ℕ, zero, suc, ◌+◌, ◌-◌, ◌*◌, ◌/◌, ◌^◌, Bool, true, false, ◌||◌, ◌==◌, List, [], ◌∷◌, ◌++◌, map, slice_set, Option, Some, None, option_map, if◌then◌else◌}
 use Rattle.std.specs.Option.{option_to_list}
 use Rattle.vx_base.specs.Numbers.{field}
 use Rattle.vx_base.specs.declared.machine.Want.{Want}
@@ -83,3 +83,8 @@ written_entry cycle port entry =
 
 abbrev pub walk_accesses : (cycle : ℕ) → Port → Walk → List Access
 walk_accesses cycle port walk = map (read_entry cycle port) walk.reads ++ map (written_entry cycle port) (option_to_list walk.write)
+
+-- physical memory once the entry of a walk is written
+abbrev pub with_entry : Option TableEntry → List ℕ → List ℕ
+with_entry None contents = contents
+with_entry (Some entry) contents = slice_set contents entry.word entry.value

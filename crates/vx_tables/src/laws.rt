@@ -1,0 +1,46 @@
+ghost use Rattle.std.specs.Prelude.{◌≡◌, ℕ, ◌+◌, ◌*◌, ◌^◌, ◌<◌, ◌≤◌, ◌⊎◌, Bool, true, false, List, length, slice_index, slice_set, Some};
+ghost use Rattle.vx_base.specs.Pages.{IsPageList};
+ghost use Rattle.vx_base.specs.declared.machine.Want.{Want};
+ghost use Rattle.vx_base.specs.declared.perm.Perm.{Perm};
+ghost use Rattle.vx_image.specs.Pages.{Memory};
+ghost use Rattle.vx_image.specs.Tables as image;
+ghost use Rattle.vx_tables.specs.Entries.{page_entry};
+ghost use Rattle.vx_tables.specs.Residency.{Residency, PlacedPage, Place, IsOf, pages_of, placed, with_place, page_map, after_walk, is_granted};
+ghost use Rattle.vx_tables.specs.Tables.{Stand, SameBut, leaf_word, table_count};
+ghost use Rattle.vx_tables.specs.Walks.{walk, table_walk, with_entry};
+ghost use Rattle.vx_tables.specs.declared.walked.Walked.TheVariants as walked;
+
+/// A walk through tables that stand for a residency depends on the pages and the residency alone, and answers the page map.
+/// Once the entry is written that it writes, the tables stand for the residency with A and D set where they are to be.
+pub fn a_walk_is_the_page_map()
+    ensures walk { (contents : List ℕ) (root address : ℕ) (want : Want) (residency : Residency) → Stand contents root residency
+        → walk (slice_index contents) root address want ≡ table_walk residency root address want }
+    ensures answer { (root address : ℕ) (want : Want) (residency : Residency) → IsPageList (pages_of residency) → address < 2 ^ 64
+        → (table_walk residency root address want).answer ≡ page_map residency address want }
+    ensures stand { (contents : List ℕ) (root address : ℕ) (want : Want) (residency : Residency) → Stand contents root residency
+        → 512 * (root + table_count (pages_of residency)) ≤ length contents → address < 2 ^ 64
+        → Stand (with_entry (table_walk residency root address want).write contents) root (after_walk residency address want) }
+{}
+
+/// A leaf entry that is written anew says where its page is then, and no other page moves.
+pub fn a_written_leaf_moves_its_page()
+    ensures { (contents : List ℕ) (first number : ℕ) (residency : Residency) (p : PlacedPage) (place : Place) → Stand contents first residency
+        → 512 * (first + table_count (pages_of residency)) ≤ length contents → placed number residency ≡ Some p
+        → Stand (slice_set contents (leaf_word first (pages_of residency) number) (page_entry p.entry.perm.bits place)) first (with_place number place residency) }
+{}
+
+/// Tables stay where memory changes in other frames alone.
+pub fn tables_elsewhere_stay()
+    ensures { (before after : List ℕ) (first changed count : ℕ) (residency : Residency) → Stand before first residency → SameBut changed count before after
+        → (first + table_count (pages_of residency) ≤ changed) ⊎ (changed + count ≤ first) → Stand after first residency }
+{}
+
+/// The page map of a residency of a memory lets through what the memory grants, and its tables take as many frames as those
+/// of the memory's image.
+pub fn pages_are_granted()
+    ensures leaf { (residency : Residency) (memory : Memory) (address frame : ℕ) (perm : Perm) (dirty : Bool) (want : Want) → IsOf residency memory
+        → page_map residency address want ≡ walked.Leaf frame perm dirty → is_granted memory address want ≡ true }
+    ensures denied { (residency : Residency) (memory : Memory) (address : ℕ) (want : Want) → IsOf residency memory
+        → page_map residency address want ≡ walked.Denied → is_granted memory address want ≡ false }
+    ensures frames { (residency : Residency) (memory : Memory) → IsOf residency memory → table_count (pages_of residency) ≡ image.table_frames memory }
+{}

@@ -7,8 +7,12 @@
 //! above looks at an entry of a table.
 #![tactic(auto)]
 
+mod laws;
 mod look;
 mod walked;
 
+pub use laws::{
+    a_walk_is_the_page_map, a_written_leaf_moves_its_page, pages_are_granted, tables_elsewhere_stay,
+};
 pub use look::Look;
 pub use walked::Walked;

@@ -1,0 +1,4 @@
+pub mod Decoded
+pub mod Moving
+pub mod Places
+pub mod Regions
