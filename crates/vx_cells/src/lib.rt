@@ -8,6 +8,7 @@
 mod access;
 mod banks;
 mod cells;
+mod laws;
 mod log_cells;
 mod merge;
 #[cfg(test)]
@@ -17,5 +18,6 @@ mod vec_cells;
 pub use access::{Access, Port};
 pub use banks::{Banks, Queued, Served};
 pub use cells::Cells;
+pub use laws::words_are_merged_by_bytes;
 pub use log_cells::LogCells;
 pub use vec_cells::VecCells;

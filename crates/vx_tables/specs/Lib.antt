@@ -1,3 +1,4 @@
+pub mod Building
 pub mod Caches
 pub mod Entries
 pub mod Residency

@@ -6,7 +6,7 @@ use Rattle.std.specs.List.{list_any}
 use Rattle.std.specs.Option.{option_map_or}
 use Rattle.vx_base.specs.Pages.{IsPageList}
 use Rattle.vx_base.specs.declared.perm.PageEntry.{PageEntry}
-use Rattle.vx_cells.specs.Cells.{CellsState}
+use Rattle.vx_cells.specs.Cells.{CellsState, IsMemory}
 use Rattle.vx_image.specs.Tables.{distinct_count}
 use Rattle.vx_tables.specs.Entries.{pointer, page_entry}
 use Rattle.vx_tables.specs.Residency.{PlacedPage, Residency, pages_of, placed, AreBelow}
@@ -78,6 +78,7 @@ pub record Stand (contents : List ℕ) (first : ℕ) (residency : Residency) : T
 
 -- the same of the cells, which have the frames of the tables and of the present pages
 pub record AreHeld (cells : CellsState) (first : ℕ) (residency : Residency) : Type 0 where
+  pub memory : IsMemory cells
   pub stand : Stand cells.contents first residency
   pub tables : first + table_count (pages_of residency) ≤ cells.frames
   pub pages : AreBelow cells.frames residency

@@ -11,13 +11,9 @@ use Rattle.vx_cells.specs.declared.access.Port.TheVariants as port
 use Rattle.vx_tables.specs.Entries.{frame_in, is_pointer, leaf_answer, leaf_written}
 use Rattle.vx_tables.specs.Residency.{Residency}
 use Rattle.vx_tables.specs.Tables.{table_word}
+use Rattle.vx_tables.specs.declared.stage.TableEntry.{TableEntry}
 use Rattle.vx_tables.specs.declared.walked.Walked.{Walked}
 use Rattle.vx_tables.specs.declared.walked.Walked.TheVariants as walked
-
--- an entry, and the word of physical memory in which it stands
-pub record TableEntry : Type 0 where
-  pub word : ℕ
-  pub value : ℕ
 
 -- the entries that a walk reads, in order, its answer, and the entry that it writes at its end
 pub record Walk : Type 0 where

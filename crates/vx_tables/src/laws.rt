@@ -15,10 +15,10 @@ ghost use Rattle.vx_tables.specs.declared.walked.Walked.TheVariants as walked;
 pub fn a_walk_is_the_page_map()
     ensures walk { (contents : List ℕ) (root address : ℕ) (want : Want) (residency : Residency) → Stand contents root residency
         → walk (slice_index contents) root address want ≡ table_walk residency root address want }
-    ensures answer { (root address : ℕ) (want : Want) (residency : Residency) → IsPageList (pages_of residency) → address < 2 ^ 64
+    ensures answer { (root address : ℕ) (want : Want) (residency : Residency) → IsPageList (pages_of residency)
         → (table_walk residency root address want).answer ≡ page_map residency address want }
     ensures stand { (contents : List ℕ) (root address : ℕ) (want : Want) (residency : Residency) → Stand contents root residency
-        → 512 * (root + table_count (pages_of residency)) ≤ length contents → address < 2 ^ 64
+        → 512 * (root + table_count (pages_of residency)) ≤ length contents
         → Stand (with_entry (table_walk residency root address want).write contents) root (after_walk residency address want) }
 {}
 

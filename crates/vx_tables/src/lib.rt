@@ -9,10 +9,12 @@
 
 mod laws;
 mod look;
+mod stage;
 mod walked;
 
 pub use laws::{
     a_walk_is_the_page_map, a_written_leaf_moves_its_page, pages_are_granted, tables_elsewhere_stay,
 };
 pub use look::Look;
+pub use stage::{Stage, TableEntry};
 pub use walked::Walked;

@@ -1,13 +1,12 @@
-// A library with one function.
+//! A cache of translations: the frames and permissions of pages that were found by walks.
+//!
+//! It stands on the definitions of `vx_tables`. To the crates above it gives `Tlb`, whose look-ups are look-ups in what was
+//! filled since it was emptied.
 #![tactic(auto)]
 
-ghost use Rattle.std.specs.Prelude.{◌≡◌};
-ghost use Rattle.vx_tlb.specs.Echo.{echo_of};
+#[cfg(test)]
+mod tests;
+mod tlb;
 
-// The `ensures` clause is the contract: what `echo` returns is `echo_of` of its argument, a definition
-// in `specs/Echo.antt`, which a caller's clause can cite too.
-pub fn echo(x: usize) -> usize
-    ensures { result ≡ echo_of x }
-{
-    x
-}
+pub use tlb::Tlb;
+pub use vx_tables::Look;

@@ -1,13 +1,12 @@
-// A library with one function.
+//! The page tables of processes, in physical memory: they are built, and walked as Sv39 has it.
+//!
+//! It stands on the definitions of `vx_tables` and on `vx_cells`. To the crates above it gives `build` and `build_present`,
+//! after which tables stand for a residency, and `walk` and `Walker`, which answer the page map of the residency and set A
+//! and D where they are to be set.
 #![tactic(auto)]
 
-ghost use Rattle.std.specs.Prelude.{◌≡◌};
-ghost use Rattle.vx_walk.specs.Echo.{echo_of};
+mod entry;
+mod walker;
 
-// The `ensures` clause is the contract: what `echo` returns is `echo_of` of its argument, a definition
-// in `specs/Echo.antt`, which a caller's clause can cite too.
-pub fn echo(x: usize) -> usize
-    ensures { result ≡ echo_of x }
-{
-    x
-}
+pub use vx_tables::Walked;
+pub use walker::Walker;
