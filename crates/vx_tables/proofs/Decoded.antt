@@ -1,5 +1,5 @@
 -- Entries as they are built, read again.
-use Rattle.std.proofs.Common.{◌≡◌, ◌≢◌, ℕ, zero, suc, ◌+◌, ◌*◌, ◌/◌, ◌%◌, ◌<◌, Bool, true, false, cond, eqb, inl, inr, Some, None, refl, sym, ap, lit<, ◌∙◌, arith}
+use Rattle.std.proofs.Common.{◌≡◌, ◌≢◌, ℕ, zero, suc, ◌+◌, ◌*◌, ◌/◌, ◌%◌, ◌<◌, ◌≤◌, Bool, true, false, cond, eqb, inl, inr, Some, None, refl, sym, ap, lit<, ◌∙◌, arith}
 use Rattle.std.specs.Prelude.{◌⊎◌, bit_and, bit_or, IsTrue, Option, ◌||◌, ◌&&◌, not, ◌==◌, if◌then◌else◌}
 use Rattle.std.proofs.lemmas.Bool.{cases_Bool, cases_lt, eqb-true, eq-eqb, ne_eqb, false≢true}
 use Rattle.vx_base.specs.Pages.{is_page_permission}
@@ -7,7 +7,7 @@ use Rattle.vx_base.specs.Permissions.{grants}
 use Rattle.vx_base.specs.declared.machine.Want.{Want}
 use Rattle.vx_base.specs.declared.machine.Want.TheVariants.{Fetch, Load, Store}
 use Rattle.vx_tables.specs.Entries.{pointer, page_bits, page_entry, frame_in, bits_in, has, is_pointer, permissions_in, lets, leaf_answer, leaf_touched, leaf_written}
-use Rattle.vx_tables.specs.Residency.{Place, is_store, found_at, touched}
+use Rattle.vx_tables.specs.Residency.{Place, is_store, found_at, touched, IsBelow}
 use Rattle.vx_tables.specs.Residency.Place.{Away, Present}
 use Rattle.vx_tables.specs.declared.walked.Walked.{Walked}
 use Rattle.vx_tables.specs.declared.walked.Walked.TheVariants as walked
@@ -130,3 +130,8 @@ leaf_written-entry bits want (Present frame a d) small =
             rw granted (inl (some ∙ ap Some new))
       ]
     ]
+
+-- an entry of a frame below 2 ^ 14 is small
+pub page_entry-frame : (bits frames : ℕ) (place : Place) → bits < 8 → frames ≤ 16384 → IsBelow frames place → page_entry bits place < 16778240
+page_entry-frame bits frames Away small few is = lit< tt
+page_entry-frame bits frames (Present frame a d) small few is = omega (arith, (all_bits bits a d small).small)

@@ -193,7 +193,7 @@ module _ (residency : Residency) (root address : ℕ) (want : Want) (listed : Is
   pub mapped_low : IsLow address
   mapped_low = low address (omega (arith, (placed-mapped (page_of address) residency p listed.mapped is).page, placed-listed (page_of address) residency p is))
 
-  few_bits : p.entry.perm.bits < 8
+  pub few_bits : p.entry.perm.bits < 8
   few_bits = permission_small p.entry.perm.bits (placed-mapped (page_of address) residency p listed.mapped is).permission
 
   abbrev pub leaf_value : ℕ

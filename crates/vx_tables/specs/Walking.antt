@@ -1,5 +1,5 @@
 -- A walk of the page tables on its way, an access at a time. This project's own.
-use Rattle.std.specs.Prelude.{◌≡◌, ℕ, zero, suc, ◌+◌, ◌*◌, ◌<◌, ◌≤◌, true, List, [], ◌∷◌, ◌++◌, map, slice_index, Option, Some, None, IfSome, option_map, if◌then◌else◌}
+use Rattle.std.specs.Prelude.{◌≡◌, ℕ, zero, suc, ◌+◌, ◌*◌, ◌<◌, ◌≤◌, ◌^◌, true, List, [], ◌∷◌, ◌++◌, map, slice_index, Option, Some, None, IfSome, option_map, if◌then◌else◌}
 use Rattle.std.specs.Option.{option_to_list}
 use Rattle.vx_base.specs.Numbers.{field}
 use Rattle.vx_base.specs.declared.machine.Want.{Want}
@@ -109,3 +109,14 @@ pub record EndsSo (before after : CellsState) (residency : Residency) (root : �
 abbrev pub StepsOn : (before after : CellsState) → Residency → (root : ℕ) (walking next : Walking) → List TableEntry → Option Walked → Type 0
 StepsOn before after residency root walking next done None = ReadsOn before after residency root walking next done
 StepsOn before after residency root walking next done (Some answer) = EndsSo before after residency root walking done answer
+
+-- a read that is to come: within the frames of the cells, of an entry whose frame fits
+pub record CanRead (cells : CellsState) (address level frame : ℕ) : Type 0 where
+  pub level_fits : level < 3
+  pub frame_fits : frame < 16384
+  pub word : entry_word frame address level < 512 * cells.frames
+  pub value : frame_in (slice_index cells.contents (entry_word frame address level)) < 2 ^ 32
+
+-- an entry that is to be written, if one is, is within the frames of the cells
+abbrev pub CanWrite : CellsState → Option TableEntry → Type 0
+CanWrite cells write = IfSome write (λ (e : TableEntry). e.word < 512 * cells.frames)
