@@ -1,17 +1,19 @@
-ghost use Rattle.std.specs.Prelude.{◌≡◌, ◌<◌, ◌≤◌, ◌+◌, ◌*◌, ◌^◌, [], List, ℕ, slice_index, if◌then◌else◌};
+ghost use Rattle.std.specs.Prelude.{◌≡◌, ◌<◌, ◌≤◌, ◌+◌, ◌*◌, ◌^◌, [], List, ℕ, map};
+ghost use Rattle.std.specs.Option.{option_to_list};
 ghost use Rattle.vx_base.specs.Pages.{IsPageList};
+ghost use Rattle.vx_cells.specs.Cells.{Makes};
 ghost use Rattle.vx_tables.specs.Entries.{frame_in};
 ghost use Rattle.vx_tables.specs.Residency.{Residency, pages_of};
 ghost use Rattle.vx_tables.specs.Tables.{AreHeld};
-ghost use Rattle.vx_tables.specs.Walking.{first_stage, stage_after, CanTick, IsWalk, Steps, StepsOn};
-ghost use Rattle.vx_tables.specs.Walks.{is_canonical, entry_word};
+ghost use Rattle.vx_tables.specs.Walking.{first_stage, stage_after, CanTick, CanWrite, IsWalk, Steps, StepsOn};
+ghost use Rattle.vx_tables.specs.Walks.{is_canonical, entry_word, written_entry};
 ghost use Rattle.vx_tables.specs.declared.stage.TableEntry.{TableEntry};
 
 use crate::entry::{frame_of, is_pointer, leaf_answer, leaf_written};
 use std::marker::Model;
 use vx_base::Want;
-use vx_cells::{Cells, Port};
-use vx_tables::{Stage, TableEntry, Walked};
+use vx_cells::{Cells, Port, words_are_merged_by_bytes};
+use vx_tables::{Stage, TableEntry, Walked, steps_follow_the_tables};
 
 /// A walk of the page tables on its way, one access after another.
 #[derive(Debug, Drop)]
@@ -68,6 +70,28 @@ fn stage_after(want: Want, address: u64, level: u32, frame: u32, value: u64) -> 
     Stage::Ends(Walked::Denied, None)
 }
 
+/// The stage in which a walk begins.
+fn first_stage(root: u32, address: u64) -> Stage
+    ensures { result ≡ first_stage root address }
+{
+    if is_canonical(address) {
+        Stage::Reads(2, root)
+    } else {
+        Stage::Ends(Walked::Denied, None)
+    }
+}
+
+/// Writes the entry at the end of a walk, where there is one.
+fn write_entry<C: Cells>(cells: &mut C, port: Port, write: Option<TableEntry>)
+    requires { CanWrite (C.state cells.old) write }
+    ensures { Makes (C.state cells.old) (C.state cells.new) (map (written_entry (C.state cells.old).cycle port) (option_to_list write)) }
+{
+    words_are_merged_by_bytes();
+    if let Some(entry) = write {
+        cells.write(port, entry.word, entry.value, u8::MAX);
+    }
+}
+
 impl Walker {
     /// A walk for an address from the root of a process's tables, in frame `root`, with its accesses on that port. A walk for
     /// an address that isn't canonical makes no access, and ends with Denied.
@@ -75,16 +99,12 @@ impl Walker {
         ensures starts { result ≡ record { address = address; want = want; port = port; stage = first_stage root address } }
         ensures walk { (residency : Residency) → IsPageList (pages_of residency) → IsWalk residency root result [] }
     {
-        let stage = if is_canonical(address) {
-            Stage::Reads(2, root)
-        } else {
-            Stage::Ends(Walked::Denied, None)
-        };
+        steps_follow_the_tables();
         Walker {
             address,
             want,
             port,
-            stage,
+            stage: first_stage(root, address),
         }
     }
 
@@ -97,6 +117,7 @@ impl Walker {
         ensures walk { (residency : Residency) (root : ℕ) (done : List TableEntry) → AreHeld (C.state cells.old) root residency
             → IsWalk residency root self.old done → StepsOn (C.state cells.old) (C.state cells.new) residency root self.old self.new done result }
     {
+        steps_follow_the_tables();
         match self.stage {
             Stage::Reads(level, frame) => {
                 let value = cells.read(self.port, entry_word(frame, self.address, level));
@@ -104,9 +125,7 @@ impl Walker {
                 None
             }
             Stage::Ends(answer, write) => {
-                if let Some(entry) = write {
-                    cells.write(self.port, entry.word, entry.value, u8::MAX);
-                }
+                write_entry(cells, self.port, write);
                 self.stage = Stage::Over;
                 Some(answer)
             }
