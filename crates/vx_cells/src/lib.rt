@@ -18,6 +18,6 @@ mod vec_cells;
 pub use access::{Access, Port};
 pub use banks::{Banks, Queued, Served};
 pub use cells::Cells;
-pub use laws::words_are_merged_by_bytes;
+pub use laws::{accesses_are_made_in_turn, words_are_merged_by_bytes};
 pub use log_cells::LogCells;
 pub use vec_cells::VecCells;

@@ -8,7 +8,7 @@ use Rattle.vx_cells.specs.declared.access.Port.{Port}
 use Rattle.vx_tables.specs.Entries.{frame_in, is_pointer, leaf_answer, leaf_written}
 use Rattle.vx_tables.specs.Residency.{Residency, pages_of, page_map, after_walk}
 use Rattle.vx_tables.specs.Tables.{gib, mib2, has_region, second_frame, leaf_frame, table_count, table_word, AreHeld, SameBut}
-use Rattle.vx_tables.specs.Walks.{Walk, is_canonical, entry_word, refused, walk_from, table_walk, read_entry, written_entry}
+use Rattle.vx_tables.specs.Walks.{Walk, is_canonical, entry_word, refused, walk_from, table_walk, walk_port, read_entry, written_entry, walk_accesses}
 use Rattle.vx_tables.specs.declared.stage.Stage.{Stage}
 use Rattle.vx_tables.specs.declared.stage.Stage.TheVariants.{Reads, Ends, Over}
 use Rattle.vx_tables.specs.declared.stage.TableEntry.{TableEntry}
@@ -120,3 +120,16 @@ pub record CanRead (cells : CellsState) (address level frame : ℕ) : Type 0 whe
 -- an entry that is to be written, if one is, is within the frames of the cells
 abbrev pub CanWrite : CellsState → Option TableEntry → Type 0
 CanWrite cells write = IfSome write (λ (e : TableEntry). e.word < 512 * cells.frames)
+
+-- the cells hold tables with that root
+pub record HaveTables (cells : CellsState) (root : ℕ) : Type 0 where
+  pub residency : Residency
+  pub held : AreHeld cells root residency
+
+-- a whole walk at one cycle through the tables of a residency: its accesses, the page map as its answer, and A and D set where
+-- they are to be
+pub record Walks (before after : CellsState) (residency : Residency) (root address : ℕ) (want : Want) (answered : Walked) : Type 0 where
+  pub makes : Makes before after (walk_accesses before.cycle (walk_port want) (table_walk residency root address want))
+  pub answer : answered ≡ page_map residency address want
+  pub held : AreHeld after root (after_walk residency address want)
+  pub others : SameBut root (table_count (pages_of residency)) before.contents after.contents

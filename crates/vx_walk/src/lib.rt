@@ -6,7 +6,11 @@
 #![tactic(auto)]
 
 mod entry;
+
 mod walker;
+mod whole;
 
 pub use vx_tables::Walked;
+
 pub use walker::Walker;
+pub use whole::walk;
