@@ -1,10 +1,11 @@
 -- What the removal of one access leaves of the queues.
-use Rattle.std.proofs.Common.{◌≡◌, ℕ, zero, suc, ◌+◌, ◌%◌, ◌<◌, ◌≤◌, Bool, true, false, ltb, Some, None, inl, inr, List, [], ◌∷◌, get_or, length, refl, sym, ap, ◌∙◌, arith}
+use Rattle.std.proofs.Common.{◌≡◌, ℕ, zero, suc, ◌+◌, ◌%◌, ◌<◌, ◌≤◌, Bool, true, false, ltb, Some, None, inl, inr, List, [], ◌∷◌, ◌++◌, ◌*◌, get_or, length, refl, sym, ap, ◌∙◌, arith}
 use Rattle.std.specs.Prelude.{filter, remove, position, slice_set}
 use Rattle.std.specs.List.{position_or_len}
 use Rattle.std.proofs.lemmas.Bool.{cases_Bool, cases_lt, ltb-false, eqb-true, ne_eqb}
 use Rattle.std.proofs.lemmas.List.Quantifiers.{position-Some}
 use Rattle.std.proofs.Math.Nat.{mod-lt}
+use Rattle.std.proofs.lemmas.List.Elements.{All-append}
 use Rattle.std.proofs.lemmas.List.Edits.{length-remove, get_or-remove_below, get_or-remove_above}
 use Rattle.vx_cells.specs.Banks.{BanksView, is_on_bank, queue_of, access_of, value_of, AreWithin, IsFree, IsReady, Serves}
 use Rattle.vx_cells.specs.Cells.{CellsState, Makes}
@@ -100,3 +101,11 @@ AreWithin-remove queued place frames lt all k d within =
       | inl below ↦ rw (get_or-remove_below queued place d k below lt) (all k d (omega arith))
       | inr above ↦ rw (get_or-remove_above queued place d k above lt) (all (k + 1) d (omega arith))
     ]
+
+-- one more that waits
+pub AreWithin-more : (queued : List Queued) (q : Queued) (frames : ℕ) → AreWithin queued frames → q.word < 512 * frames → AreWithin (queued ++ q ∷ []) frames
+AreWithin-more queued q frames all within = All-append (λ (x : Queued). x.word < 512 * frames) queued (q ∷ []) all (λ k d lt. one k d lt)
+  where
+    one : (k : ℕ) (d : Queued) → k < length (q ∷ []) → (get_or (q ∷ []) k d).word < 512 * frames
+    one zero d lt = within
+    one (suc k) d lt = absurd (omega arith)

@@ -1,3 +1,5 @@
+ghost use Rattle.std.specs.Prelude.{◌≡◌};
+
 use crate::{Access, Banks, Cells, LogCells, Port, Queued, Served, VecCells};
 use std::test::Fail;
 
@@ -46,7 +48,9 @@ fn the_log_lasts_as_long_as_its_room(rt: HostRuntime) -> Result<(), Fail> {
 }
 
 /// A store of a test to a word of one frame, or a load from one.
-fn queued(tag: u32, word: u32, value: u64, store: bool) -> Queued {
+fn queued(tag: u32, word: u32, value: u64, store: bool) -> Queued
+    ensures { result.word ≡ word }
+{
     Queued {
         tag,
         word,

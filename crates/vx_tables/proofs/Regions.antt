@@ -52,7 +52,7 @@ below-step n (k ∷ ks) =
     one_of false x y e = omega (arith, e)
 
 -- more numbers, no fewer below
-below-more : (n d : ℕ) (ns : List ℕ) → below n ns ≤ below (n + d) ns
+pub below-more : (n d : ℕ) (ns : List ℕ) → below n ns ≤ below (n + d) ns
 below-more n zero ns = let e : n + 0 ≡ n = omega arith in rw e (omega arith)
 below-more n (suc d) ns =
     let e : n + suc d ≡ suc (n + d) = omega arith in

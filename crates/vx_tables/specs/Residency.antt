@@ -1,6 +1,6 @@
 -- Where the mapped pages of a process are, and what that says of an address: RISC-V Privileged 1.12, section 4.4 (Sv39: pages
 -- of 4,096 bytes, the bits A and D). That a mapped page may be away is this project's own.
-use Rattle.std.specs.Prelude.{◌≡◌, ℕ, suc, ◌<◌, ◌/◌, Bool, true, false, ◌||◌, ◌==◌, List, [], ◌∷◌, map, All, Option, Some, None, if◌then◌else◌}
+use Rattle.std.specs.Prelude.{◌≡◌, ℕ, suc, ◌<◌, ◌/◌, Bool, true, false, ◌||◌, ◌==◌, List, [], ◌∷◌, map, All, Option, Some, None, option_map, if◌then◌else◌}
 use Rattle.std.specs.Option.{option_map_or}
 use Rattle.vx_base.specs.Permissions.{grants}
 use Rattle.vx_base.specs.declared.machine.Want.{Want}
@@ -32,13 +32,14 @@ pages_of residency = map (λ (p : PlacedPage). p.entry) residency
 abbrev pub IsOf : Residency → Memory → Type 0
 IsOf residency memory = pages_of residency ≡ map entry_of_page memory
 
--- these pages, in no frame, and in successive frames from one on with A and D not set
-abbrev pub all_away : List PageEntry → Residency
-all_away entries = map (λ (e : PageEntry). record { entry = e; place = Away }) entries
+-- these pages at boot, with A and D not set: in no frame, or in successive frames from one on
+abbrev pub place_at_boot : (frame : Option ℕ) → Place
+place_at_boot None = Away
+place_at_boot (Some frame) = Present frame false false
 
-abbrev pub all_present : (frame : ℕ) → List PageEntry → Residency
-all_present frame [] = []
-all_present frame (e ∷ entries) = record { entry = e; place = Present frame false false } ∷ all_present (suc frame) entries
+abbrev pub at_boot : (frame : Option ℕ) → List PageEntry → Residency
+at_boot frame [] = []
+at_boot frame (e ∷ entries) = record { entry = e; place = place_at_boot frame } ∷ at_boot (option_map suc frame) entries
 
 -- the page of that number
 abbrev pub placed : ℕ → Residency → Option PlacedPage

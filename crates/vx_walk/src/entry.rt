@@ -1,6 +1,6 @@
-ghost use Rattle.std.specs.Prelude.{⊤, ◌≡◌, ◌<◌, ◌^◌, ◌*◌, ◌+◌, [], ◌∷◌, codes, bit_or};
-ghost use Rattle.vx_tables.specs.Entries.{away_entry, frame_in, bits_in, is_pointer, permissions_in, lets, leaf_answer, leaf_touched, leaf_written, pointer};
-ghost use Rattle.vx_tables.specs.Residency.{is_store};
+ghost use Rattle.std.specs.Prelude.{⊤, ◌≡◌, ◌<◌, ◌^◌, false, [], ◌∷◌, codes};
+ghost use Rattle.vx_tables.specs.Entries.{away_entry, frame_in, bits_in, is_pointer, permissions_in, lets, leaf_answer, leaf_touched, leaf_written, page_bits, page_entry};
+ghost use Rattle.vx_tables.specs.Residency.{is_store, place_at_boot};
 
 use bitflags::{Flag, Flags};
 use vx_base::{Perm, Want};
@@ -179,4 +179,25 @@ pub fn leaf_written(want: Want, value: u64) -> Option<u64>
         return None;
     }
     Some(written)
+}
+
+/// The entry of a page at boot: away, or present in a frame with A and D not set.
+pub fn page_value(perm: Perm, frame: Option<u32>) -> u64
+    ensures { result ≡ page_entry perm.bits (place_at_boot frame) }
+{
+    match frame {
+        None => AWAY,
+        Some(frame) => 1024 * u64::from(frame) + present_bits(perm),
+    }
+}
+
+/// The bits of a present page with these permissions.
+fn present_bits(perm: Perm) -> u64
+    ensures value { result ≡ page_bits perm.bits false false }
+    ensures small { result < 32 }
+{
+    let read = if perm.grants(Want::Load) { 2 } else { 0 };
+    let write = if perm.grants(Want::Store) { 4 } else { 0 };
+    let execute = if perm.grants(Want::Fetch) { 8 } else { 0 };
+    17 + read + write + execute
 }

@@ -5,6 +5,7 @@
 //! and D where they are to be set.
 #![tactic(auto)]
 
+mod build;
 mod entry;
 
 mod walker;

@@ -1,0 +1,156 @@
+ghost use Rattle.std.specs.Prelude.{◌≡◌, ◌<◌, ◌≤◌, ◌+◌, ◌*◌, ◌/◌, ◌^◌, ℕ, [], ◌∷◌, length, slice_index_or, IfSome, option_map, if◌then◌else◌};
+ghost use Rattle.vx_base.specs.declared.perm.PageEntry.{PageEntry};
+ghost use Rattle.vx_cells.specs.Cells.{IsMemory, Makes};
+ghost use Rattle.vx_tables.specs.Building.{IsFrom, kernel_write, kernel_writes, pointer_for};
+ghost use Rattle.vx_tables.specs.Entries.{pointer};
+ghost use Rattle.vx_tables.specs.Residency.{at_boot};
+ghost use Rattle.vx_tables.specs.Tables.{has_region, regions_below, leaf_entry};
+
+use crate::entry::page_value;
+use vx_base::PageList;
+use vx_cells::{Cells, Port, accesses_are_made_in_turn, words_are_merged_by_bytes};
+use vx_tables::tables_are_built_in_turn;
+
+/// How many pages a region of 1 GiB has, and how many such regions there are below the last page.
+const GIB: u64 = 1 << 18;
+const GIB_REGIONS: u64 = 256;
+
+/// How many pages a region of 2 MiB has.
+const MIB2: u64 = 1 << 9;
+
+/// How many words a frame has.
+const FRAME_WORDS: u32 = 512;
+
+/// The region of so many pages in which the page at an index lies.
+fn region_at(pages: &PageList, index: usize, size: u64) -> u64
+    requires size { 0 < size }
+    requires within { index < length pages.now }
+    ensures { (d : PageEntry) → result ≡ (slice_index_or pages.now index d).page / size }
+{
+    match pages.get(index) {
+        Some(entry) => entry.page / size,
+        None => unreachable!(),
+    }
+}
+
+/// The index of the first page at or above a region of so many pages, and the number of pages where there is none.
+fn first_from(pages: &PageList, size: u64, region: u64) -> usize
+    requires { 0 < size }
+    ensures { IsFrom size region pages.now result }
+{
+    let mut low = 0;
+    let mut high = pages.len();
+    while low < high {
+        let middle = low + (high - low) / 2;
+        if region_at(pages, middle, size) < region {
+            low = middle + 1;
+        } else {
+            high = middle;
+        }
+    }
+    low
+}
+
+/// Whether a region of so many pages has one of the pages.
+fn has_region(pages: &PageList, size: u64, region: u64) -> bool
+    requires { 0 < size }
+    ensures { result ≡ has_region size region pages.now }
+{
+    let index = first_from(pages, size, region);
+    index < pages.len() && region_at(pages, index, size) == region
+}
+
+/// The leaf entry of a page at boot: the pages are in no frame, or in successive frames from one on.
+fn leaf_value(pages: &PageList, frame: Option<u32>, number: u64) -> u64
+    requires { IfSome frame (λ f. f + length pages.now ≤ 16384) }
+    ensures { result ≡ leaf_entry (at_boot frame pages.now) number }
+{
+    tables_are_built_in_turn();
+    let index = first_from(pages, 1, number);
+    match pages.get(index) {
+        Some(entry) if entry.page == number => page_value(entry.perm, frame_behind(frame, index)),
+        _ => 0,
+    }
+}
+
+/// The frame that lies so many behind one.
+fn frame_behind(frame: Option<u32>, index: usize) -> Option<u32>
+    requires { IfSome frame (λ f. f + index < 2 ^ 32) }
+    ensures { result ≡ option_map (λ f. f + index) frame }
+{
+    match frame {
+        None => None,
+        Some(frame) => Some(frame + index as u32),
+    }
+}
+
+/// Writes a whole word.
+fn write_word<C: Cells>(cells: &mut C, word: u32, value: u64)
+    requires { word < 512 * (C.state cells.old).frames }
+    ensures { Makes (C.state cells.old) (C.state cells.new) (kernel_write (C.state cells.old).cycle word value ∷ []) }
+{
+    words_are_merged_by_bytes();
+    cells.write(Port::Kernel, word, value, u8::MAX);
+}
+
+/// Writes a table above the leaves, whose first entry is that of region `base` of `size` pages; the tables to which it leads
+/// stand in successive frames from `next` on. Answers the frame behind them.
+fn write_pointers<C: Cells>(
+    cells: &mut C,
+    frame: u32,
+    pages: &PageList,
+    size: u64,
+    base: u64,
+    next: u32,
+) -> u32
+    requires memory { IsMemory (C.state cells.old) }
+    requires frame { frame < (C.state cells.old).frames }
+    requires size { 0 < size }
+    requires base { base ≤ 2 ^ 32 }
+    requires next { next ≤ 65536 }
+    ensures next { (from : ℕ) → next ≡ from + regions_below size base pages.now → result ≡ from + regions_below size (base + 512) pages.now }
+    ensures makes { (from : ℕ) → next ≡ from + regions_below size base pages.now
+        → Makes (C.state cells.old) (C.state cells.new) (kernel_writes (C.state cells.old).cycle (512 * frame) (λ i. pointer_for from size pages.now (base + i)) 512) }
+{
+    tables_are_built_in_turn();
+    accesses_are_made_in_turn();
+    let mut next = next;
+    for i in 0..FRAME_WORDS {
+        let is_mapped = has_region(pages, size, base + u64::from(i));
+        write_word(cells, FRAME_WORDS * frame + i, pointer_or_none(is_mapped, next));
+        next += u32::from(is_mapped);
+    }
+    next
+}
+
+/// The entry that leads to the table in a frame, where there is one.
+fn pointer_or_none(is_mapped: bool, frame: u32) -> u64
+    ensures { result ≡ (if is_mapped then pointer frame else 0) }
+{
+    if is_mapped {
+        1024 * u64::from(frame) + 1
+    } else {
+        0
+    }
+}
+
+/// Writes the leaf table whose first entry is that of page `base`.
+fn write_leaves<C: Cells>(
+    cells: &mut C,
+    frame: u32,
+    pages: &PageList,
+    first_page: Option<u32>,
+    base: u64,
+)
+    requires memory { IsMemory (C.state cells.old) }
+    requires frame { frame < (C.state cells.old).frames }
+    requires base { base ≤ 2 ^ 32 }
+    requires pages { IfSome first_page (λ f. f + length pages.now ≤ 16384) }
+    ensures { Makes (C.state cells.old) (C.state cells.new) (kernel_writes (C.state cells.old).cycle (512 * frame) (λ i. leaf_entry (at_boot first_page pages.now) (base + i)) 512) }
+{
+    accesses_are_made_in_turn();
+    for i in 0..FRAME_WORDS {
+        let value = leaf_value(pages, first_page, base + u64::from(i));
+        write_word(cells, FRAME_WORDS * frame + i, value);
+    }
+}
