@@ -67,10 +67,13 @@ fn leaf_value(pages: &PageList, frame: Option<u32>, number: u64) -> u64
 {
     tables_are_built_in_turn();
     let index = first_from(pages, 1, number);
-    match pages.get(index) {
-        Some(entry) if entry.page == number => page_value(entry.perm, frame_behind(frame, index)),
-        _ => 0,
+    let Some(entry) = pages.get(index) else {
+        return 0;
+    };
+    if entry.page != number {
+        return 0;
     }
+    page_value(entry.perm, frame_behind(frame, index))
 }
 
 /// The frame that lies so many behind one.
