@@ -8,6 +8,9 @@ use Rattle.vx_tables.specs.Tables.{has_region}
 use Rattle.vx_base.specs.Pages.{IsPageList}
 use Rattle.vx_base.specs.declared.perm.PageEntry.{PageEntry}
 
+pub nothing : PageEntry
+nothing = record { page = 0; perm = record { bits = 0 } }
+
 -- quotients keep the order
 quotients_rise : (a b size : ℕ) → 0 < size → a ≤ b → a / size ≤ b / size
 quotients_rise a b size some le =

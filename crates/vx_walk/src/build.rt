@@ -1,13 +1,13 @@
 ghost use Rattle.std.specs.Prelude.{◌≡◌, ◌<◌, ◌≤◌, ◌+◌, ◌*◌, ◌/◌, ◌^◌, ℕ, [], ◌∷◌, length, slice_index_or, IfSome, option_map, if◌then◌else◌};
 ghost use Rattle.vx_base.specs.declared.perm.PageEntry.{PageEntry};
-ghost use Rattle.vx_cells.specs.Cells.{IsMemory, Makes};
-ghost use Rattle.vx_tables.specs.Building.{IsFrom, kernel_write, kernel_writes, pointer_for};
+ghost use Rattle.vx_cells.specs.Cells.{CellsState, IsMemory, Makes};
+ghost use Rattle.vx_tables.specs.Building.{IsFrom, kernel_write, kernel_writes, pointer_for, table_writes};
 ghost use Rattle.vx_tables.specs.Entries.{pointer};
-ghost use Rattle.vx_tables.specs.Residency.{at_boot};
-ghost use Rattle.vx_tables.specs.Tables.{has_region, regions_below, leaf_entry};
+ghost use Rattle.vx_tables.specs.Residency.{Residency, pages_of, at_boot};
+ghost use Rattle.vx_tables.specs.Tables.{gib, mib2, has_region, regions_below, region_total, leaf_entry, table_count};
 
 use crate::entry::page_value;
-use vx_base::PageList;
+use vx_base::{PageEntry, PageList};
 use vx_cells::{Cells, Port, accesses_are_made_in_turn, words_are_merged_by_bytes};
 use vx_tables::tables_are_built_in_turn;
 
@@ -21,16 +21,24 @@ const MIB2: u64 = 1 << 9;
 /// How many words a frame has.
 const FRAME_WORDS: u32 = 512;
 
+/// The page at an index.
+fn entry_at(pages: &PageList, index: usize) -> PageEntry
+    requires { index < length pages.now }
+    ensures { (d : PageEntry) → result ≡ slice_index_or pages.now index d }
+{
+    match pages.get(index) {
+        Some(entry) => *entry,
+        None => unreachable!(),
+    }
+}
+
 /// The region of so many pages in which the page at an index lies.
 fn region_at(pages: &PageList, index: usize, size: u64) -> u64
     requires size { 0 < size }
     requires within { index < length pages.now }
     ensures { (d : PageEntry) → result ≡ (slice_index_or pages.now index d).page / size }
 {
-    match pages.get(index) {
-        Some(entry) => entry.page / size,
-        None => unreachable!(),
-    }
+    entry_at(pages, index).page / size
 }
 
 /// The index of the first page at or above a region of so many pages, and the number of pages where there is none.
@@ -67,9 +75,10 @@ fn leaf_value(pages: &PageList, frame: Option<u32>, number: u64) -> u64
 {
     tables_are_built_in_turn();
     let index = first_from(pages, 1, number);
-    let Some(entry) = pages.get(index) else {
+    if index >= pages.len() {
         return 0;
-    };
+    }
+    let entry = entry_at(pages, index);
     if entry.page != number {
         return 0;
     }
@@ -121,9 +130,17 @@ fn write_pointers<C: Cells>(
     for i in 0..FRAME_WORDS {
         let is_mapped = has_region(pages, size, base + u64::from(i));
         write_word(cells, FRAME_WORDS * frame + i, pointer_or_none(is_mapped, next));
-        next += u32::from(is_mapped);
+        next += count_of(is_mapped);
     }
     next
+}
+
+/// How many tables a region has: one where it has a page.
+fn count_of(is_mapped: bool) -> u32
+    ensures value { result ≡ (if is_mapped then 1 else 0) }
+    ensures few { result ≤ 1 }
+{
+    if is_mapped { 1 } else { 0 }
 }
 
 /// The entry that leads to the table in a frame, where there is one.
@@ -156,4 +173,81 @@ fn write_leaves<C: Cells>(
         let value = leaf_value(pages, first_page, base + u64::from(i));
         write_word(cells, FRAME_WORDS * frame + i, value);
     }
+}
+
+/// How far second-level tables are written: the tables' frames so far, and the frame of the next leaf table.
+#[derive(Clone, Copy, PartialEq, Eq, Debug)]
+struct Seconds {
+    frame: u32,
+    next: u32,
+}
+
+/// Writes the second-level table of a region of 1 GiB, where it has a page.
+fn write_second<C: Cells>(
+    cells: &mut C,
+    first: u32,
+    pages: &PageList,
+    region: u64,
+    begun: Seconds,
+) -> Seconds
+    requires memory { IsMemory (C.state cells.old) }
+    requires room { first + table_count pages.now ≤ (C.state cells.old).frames }
+    requires region { region < 256 }
+    requires frame { begun.frame ≡ 1 + regions_below gib region pages.now }
+    requires next { begun.next ≡ first + 1 + region_total gib pages.now + regions_below mib2 (512 * region) pages.now }
+    ensures frame { result.frame ≡ 1 + regions_below gib (region + 1) pages.now }
+    ensures next { result.next ≡ first + 1 + region_total gib pages.now + regions_below mib2 (512 * region + 512) pages.now }
+    ensures frames { (C.state cells.new).frames ≡ (C.state cells.old).frames }
+    ensures memory { IsMemory (C.state cells.new) }
+    ensures makes { (before : CellsState) (residency : Residency) → pages_of residency ≡ pages.now
+        → Makes before (C.state cells.old) (table_writes before.cycle residency first begun.frame)
+        → Makes before (C.state cells.new) (table_writes before.cycle residency first result.frame) }
+{
+    tables_are_built_in_turn();
+    accesses_are_made_in_turn();
+    if !has_region(pages, GIB, region) {
+        return begun;
+    }
+    let next = write_pointers(
+        cells,
+        first + begun.frame,
+        pages,
+        MIB2,
+        512 * region,
+        begun.next,
+    );
+    Seconds {
+        frame: begun.frame + 1,
+        next,
+    }
+}
+
+/// Writes the leaf table of a region of 2 MiB, where it has a page. Answers how many frames the tables have so far.
+fn write_leaf<C: Cells>(
+    cells: &mut C,
+    first: u32,
+    pages: &PageList,
+    first_page: Option<u32>,
+    region: u64,
+    frame: u32,
+) -> u32
+    requires memory { IsMemory (C.state cells.old) }
+    requires room { first + table_count pages.now ≤ (C.state cells.old).frames }
+    requires region { region < 2 ^ 20 }
+    requires pages { IfSome first_page (λ f. f + length pages.now ≤ 16384) }
+    requires frame { frame ≡ 1 + region_total gib pages.now + regions_below mib2 region pages.now }
+    ensures frame { result ≡ 1 + region_total gib pages.now + regions_below mib2 (region + 1) pages.now }
+    ensures frames { (C.state cells.new).frames ≡ (C.state cells.old).frames }
+    ensures memory { IsMemory (C.state cells.new) }
+    ensures makes { (before : CellsState)
+        → Makes before (C.state cells.old) (table_writes before.cycle (at_boot first_page pages.now) first frame)
+        → Makes before (C.state cells.new) (table_writes before.cycle (at_boot first_page pages.now) first result) }
+{
+    tables_are_built_in_turn();
+    accesses_are_made_in_turn();
+    if !has_region(pages, MIB2, region) {
+        return frame;
+    }
+    write_leaves(cells, first + frame, pages, first_page, 512 * region);
+    frame + 1
 }
