@@ -5,12 +5,13 @@
 //! and D where they are to be set.
 #![tactic(auto)]
 
-mod build;
+mod building;
 mod entry;
 
 mod walker;
 mod whole;
 
+pub use building::{build, build_present};
 pub use vx_tables::Walked;
 
 pub use walker::Walker;

@@ -4,7 +4,7 @@ use Rattle.vx_cells.specs.Cells.{Makes}
 use Rattle.vx_tables.specs.Building.{kernel_writes}
 use Rattle.vx_tables.specs.Residency.{at_boot}
 use Rattle.vx_tables.specs.Tables.{leaf_entry}
-use Rattle.vx_walk.proofs.build.write_leaves.Given as goal
+use Rattle.vx_walk.proofs.building.write_leaves.Given as goal
 
 abbrev pub invariant-loop-i : goal.invariant-loop-i
 invariant-loop-i g l = record {

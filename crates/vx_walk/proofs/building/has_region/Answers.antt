@@ -3,7 +3,7 @@ use Rattle.std.proofs.Common.{◌≡◌, ℕ, ◌/◌, ◌<◌, ◌≤◌, ◌�
 use Rattle.std.proofs.lemmas.Bool.{cases_Bool, cases_lt, eqb-true, eq-eqb, ne_eqb, le-ltb, false≢true}
 use Rattle.vx_base.specs.declared.perm.PageEntry.{PageEntry}
 use Rattle.vx_walk.proofs.Ordered.{region-there, region-past, region-above, nothing}
-use Rattle.vx_walk.proofs.build.has_region.Goals as goal
+use Rattle.vx_walk.proofs.building.has_region.Goals as goal
 
 pub returns-then-index-len : goal.returns-then-index-len
 returns-then-index-len c =

@@ -1,7 +1,7 @@
 -- The pages rise, so the half that is left out is below the region, or isn't.
 use Rattle.std.proofs.Common.{ℕ, ◌+◌, ◌-◌, ◌/◌, ◌≤◌, arith}
 use Rattle.vx_walk.proofs.Ordered.{regions_rise}
-use Rattle.vx_walk.proofs.build.first_from.Goals as goal
+use Rattle.vx_walk.proofs.building.first_from.Goals as goal
 
 pub loop-low-preserved : goal.loop-low-preserved
 loop-low-preserved c =

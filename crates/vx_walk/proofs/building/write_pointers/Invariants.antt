@@ -3,7 +3,7 @@ use Rattle.std.proofs.Common.{◌≡◌, ℕ, ◌+◌, ◌*◌, ◌≤◌}
 use Rattle.vx_cells.specs.Cells.{Makes}
 use Rattle.vx_tables.specs.Building.{kernel_writes, pointer_for}
 use Rattle.vx_tables.specs.Tables.{regions_below}
-use Rattle.vx_walk.proofs.build.write_pointers.Given as goal
+use Rattle.vx_walk.proofs.building.write_pointers.Given as goal
 
 abbrev pub invariant-loop-i : goal.invariant-loop-i
 invariant-loop-i g l = record {

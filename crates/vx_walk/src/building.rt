@@ -1,7 +1,8 @@
-ghost use Rattle.std.specs.Prelude.{◌≡◌, ◌<◌, ◌≤◌, ◌+◌, ◌*◌, ◌/◌, ◌^◌, ℕ, [], ◌∷◌, length, slice_index_or, IfSome, option_map, if◌then◌else◌};
+ghost use Rattle.std.specs.Prelude.{◌≡◌, ◌<◌, ◌≤◌, ◌+◌, ◌*◌, ◌/◌, ◌^◌, ℕ, [], ◌∷◌, Some, None, length, slice_index_or, IfSome, option_map, if◌then◌else◌};
 ghost use Rattle.vx_base.specs.declared.perm.PageEntry.{PageEntry};
 ghost use Rattle.vx_cells.specs.Cells.{CellsState, IsMemory, Makes};
-ghost use Rattle.vx_tables.specs.Building.{IsFrom, kernel_write, kernel_writes, pointer_for, table_writes};
+ghost use Rattle.vx_base.specs.Pages.{IsPageList};
+ghost use Rattle.vx_tables.specs.Building.{Builds, IsFrom, kernel_write, kernel_writes, pointer_for, table_writes};
 ghost use Rattle.vx_tables.specs.Entries.{pointer};
 ghost use Rattle.vx_tables.specs.Residency.{Residency, pages_of, at_boot};
 ghost use Rattle.vx_tables.specs.Tables.{gib, mib2, has_region, regions_below, region_total, leaf_entry, table_count};
@@ -250,4 +251,126 @@ fn write_leaf<C: Cells>(
     }
     write_leaves(cells, first + frame, pages, first_page, 512 * region);
     frame + 1
+}
+
+/// Writes the second-level tables behind the root. Answers how many frames the tables have so far.
+fn write_seconds<C: Cells>(cells: &mut C, first: u32, pages: &PageList, next: u32) -> u32
+    requires memory { IsMemory (C.state cells.old) }
+    requires room { first + table_count pages.now ≤ (C.state cells.old).frames }
+    requires listed { IsPageList pages.now }
+    requires next { next ≡ first + 1 + region_total gib pages.now }
+    ensures count { result ≡ 1 + region_total gib pages.now }
+    ensures frames { (C.state cells.new).frames ≡ (C.state cells.old).frames }
+    ensures memory { IsMemory (C.state cells.new) }
+    ensures makes { (before : CellsState) (residency : Residency) → pages_of residency ≡ pages.now
+        → Makes before (C.state cells.old) (table_writes before.cycle residency first 1)
+        → Makes before (C.state cells.new) (table_writes before.cycle residency first result) }
+{
+    tables_are_built_in_turn();
+    let mut begun = Seconds { frame: 1, next };
+    for region in 0..GIB_REGIONS {
+        begun = write_second(cells, first, pages, region, begun);
+    }
+    begun.frame
+}
+
+/// Writes the leaf tables of a region of 1 GiB. Answers how many frames the tables have so far.
+fn write_leaf_region<C: Cells>(
+    cells: &mut C,
+    first: u32,
+    pages: &PageList,
+    first_page: Option<u32>,
+    region: u64,
+    frame: u32,
+) -> u32
+    requires memory { IsMemory (C.state cells.old) }
+    requires room { first + table_count pages.now ≤ (C.state cells.old).frames }
+    requires region { region < 256 }
+    requires pages { IfSome first_page (λ f. f + length pages.now ≤ 16384) }
+    requires frame { frame ≡ 1 + region_total gib pages.now + regions_below mib2 (512 * region) pages.now }
+    ensures frame { result ≡ 1 + region_total gib pages.now + regions_below mib2 (512 * region + 512) pages.now }
+    ensures frames { (C.state cells.new).frames ≡ (C.state cells.old).frames }
+    ensures memory { IsMemory (C.state cells.new) }
+    ensures makes { (before : CellsState)
+        → Makes before (C.state cells.old) (table_writes before.cycle (at_boot first_page pages.now) first frame)
+        → Makes before (C.state cells.new) (table_writes before.cycle (at_boot first_page pages.now) first result) }
+{
+    tables_are_built_in_turn();
+    if !has_region(pages, GIB, region) {
+        return frame;
+    }
+    let mut frame = frame;
+    for i in 0..MIB2 {
+        frame = write_leaf(cells, first, pages, first_page, MIB2 * region + i, frame);
+    }
+    frame
+}
+
+/// Writes the leaf tables behind the others. Answers how many frames the tables have.
+fn write_leaf_tables<C: Cells>(
+    cells: &mut C,
+    first: u32,
+    pages: &PageList,
+    first_page: Option<u32>,
+    frame: u32,
+) -> u32
+    requires memory { IsMemory (C.state cells.old) }
+    requires room { first + table_count pages.now ≤ (C.state cells.old).frames }
+    requires listed { IsPageList pages.now }
+    requires pages { IfSome first_page (λ f. f + length pages.now ≤ 16384) }
+    requires frame { frame ≡ 1 + region_total gib pages.now }
+    ensures count { result ≡ table_count pages.now }
+    ensures makes { (before : CellsState)
+        → Makes before (C.state cells.old) (table_writes before.cycle (at_boot first_page pages.now) first frame)
+        → Makes before (C.state cells.new) (table_writes before.cycle (at_boot first_page pages.now) first result) }
+{
+    tables_are_built_in_turn();
+    let mut frame = frame;
+    for region in 0..GIB_REGIONS {
+        frame = write_leaf_region(cells, first, pages, first_page, region, frame);
+    }
+    frame
+}
+
+/// Writes the page tables of a process, whose pages are in no frame or in successive frames from one on.
+fn build_tables<C: Cells>(
+    cells: &mut C,
+    first: u32,
+    pages: &PageList,
+    first_page: Option<u32>,
+) -> u32
+    requires room { first + table_count pages.now ≤ (C.state cells.old).frames }
+    requires pages { IfSome first_page (λ f. f + length pages.now ≤ 16384) }
+    ensures count { result ≡ table_count pages.now }
+    ensures builds { Builds (C.state cells.old) (C.state cells.new) first (at_boot first_page pages.now) }
+{
+    tables_are_built_in_turn();
+    accesses_are_made_in_turn();
+    let _frames = cells.frames();
+    let _pages = pages.len();
+    let next = write_pointers(cells, first, pages, GIB, 0, first + 1);
+    let frame = write_seconds(cells, first, pages, next);
+    write_leaf_tables(cells, first, pages, first_page, frame)
+}
+
+/// Writes the page tables of a process in successive frames from `first` on, at the current cycle on port Kernel: the root,
+/// the second-level tables, the leaf tables, each kind in rising address, and each frame's 512 words in rising order (RISC-V
+/// Privileged 1.12, section 4.4). Every page is away. Answers how many frames the tables take; the cells have them.
+pub fn build<C: Cells>(cells: &mut C, first: u32, pages: &PageList) -> u32
+    requires { first + table_count pages.now ≤ (C.state cells.old).frames }
+    ensures count { result ≡ table_count pages.now }
+    ensures builds { Builds (C.state cells.old) (C.state cells.new) first (at_boot None pages.now) }
+{
+    build_tables(cells, first, pages, None)
+}
+
+/// The same with every page present, in successive frames from `frame` on, and A and D not set. The cells have these frames.
+pub fn build_present<C: Cells>(cells: &mut C, first: u32, pages: &PageList, frame: u32) -> u32
+    requires room { first + table_count pages.now ≤ (C.state cells.old).frames }
+    requires pages { frame + length pages.now ≤ (C.state cells.old).frames }
+    ensures count { result ≡ table_count pages.now }
+    ensures builds { Builds (C.state cells.old) (C.state cells.new) first (at_boot (Some frame) pages.now) }
+{
+    let _frames = cells.frames();
+    build_tables(cells, first, pages, Some(frame))
 }

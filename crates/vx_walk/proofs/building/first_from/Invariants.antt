@@ -1,7 +1,7 @@
 -- The pages before `low` lie below the region, and those from `high` on don't.
 use Rattle.std.proofs.Common.{ℕ, ◌-◌, ◌/◌, ◌<◌, ◌≤◌, length, get_or}
 use Rattle.vx_base.specs.declared.perm.PageEntry.{PageEntry}
-use Rattle.vx_walk.proofs.build.first_from.Given as goal
+use Rattle.vx_walk.proofs.building.first_from.Given as goal
 
 abbrev pub invariant-loop-low : goal.invariant-loop-low
 invariant-loop-low l = record {

@@ -6,7 +6,7 @@ use Rattle.vx_tables.specs.Building.{kernel_writes, pointer_for}
 use Rattle.vx_tables.specs.Tables.{regions_below, has_region}
 use Rattle.vx_tables.specs.Entries.{pointer}
 use Rattle.vx_walk.proofs.Written.{no-words, one-more}
-use Rattle.vx_walk.proofs.build.write_pointers.Goals as goal
+use Rattle.vx_walk.proofs.building.write_pointers.Goals as goal
 
 pub loop-i-init : goal.loop-i-init
 loop-i-init g c = record {

@@ -3,7 +3,7 @@ use Rattle.std.proofs.Common.{◌≡◌, ℕ, ◌+◌, ◌*◌, refl, sym, ap, �
 use Rattle.vx_tables.specs.Residency.{at_boot}
 use Rattle.vx_tables.specs.Tables.{leaf_entry}
 use Rattle.vx_walk.proofs.Written.{no-words, one-more}
-use Rattle.vx_walk.proofs.build.write_leaves.Goals as goal
+use Rattle.vx_walk.proofs.building.write_leaves.Goals as goal
 
 pub loop-i-init : goal.loop-i-init
 loop-i-init g c = record {

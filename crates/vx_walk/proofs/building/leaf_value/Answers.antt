@@ -6,7 +6,7 @@ use Rattle.vx_base.specs.declared.perm.PageEntry.{PageEntry}
 use Rattle.vx_tables.specs.Entries.{page_entry}
 use Rattle.vx_tables.specs.Residency.{PlacedPage, place_at_boot}
 use Rattle.vx_walk.proofs.Ordered.{nothing}
-use Rattle.vx_walk.proofs.build.leaf_value.Goals as goal
+use Rattle.vx_walk.proofs.building.leaf_value.Goals as goal
 
 pub returns-then-index-len : goal.returns-then-index-len
 returns-then-index-len c =
