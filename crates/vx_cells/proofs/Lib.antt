@@ -1,0 +1,4 @@
+pub mod Logged
+pub mod Merged
+pub mod Queues
+pub mod Turns

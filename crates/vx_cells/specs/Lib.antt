@@ -1,0 +1,4 @@
+pub mod Banks
+pub mod Cells
+pub mod LogCells
+pub mod Merging

@@ -1,0 +1,7 @@
+pub mod Building
+pub mod Caches
+pub mod Entries
+pub mod Residency
+pub mod Tables
+pub mod Walking
+pub mod Walks

@@ -1,0 +1,135 @@
+ghost use Rattle.std.specs.Prelude.{◌≡◌, ◌<◌, ◌≤◌, ◌+◌, ◌*◌, ◌^◌, [], List, ℕ, map};
+ghost use Rattle.std.specs.Option.{option_to_list};
+ghost use Rattle.vx_base.specs.Pages.{IsPageList};
+ghost use Rattle.vx_cells.specs.Cells.{Makes};
+ghost use Rattle.vx_tables.specs.Entries.{frame_in};
+ghost use Rattle.vx_tables.specs.Residency.{Residency, pages_of};
+ghost use Rattle.vx_tables.specs.Tables.{AreHeld};
+ghost use Rattle.vx_tables.specs.Walking.{first_stage, stage_after, CanTick, CanWrite, IsWalk, Steps, StepsOn};
+ghost use Rattle.vx_tables.specs.Walks.{is_canonical, entry_word, written_entry};
+ghost use Rattle.vx_tables.specs.declared.stage.TableEntry.{TableEntry};
+
+use crate::entry::{frame_of, is_pointer, leaf_answer, leaf_written};
+use std::marker::Model;
+use vx_base::Want;
+use vx_cells::{Cells, Port, words_are_merged_by_bytes};
+use vx_tables::{Stage, TableEntry, Walked, steps_follow_the_tables};
+
+/// A walk of the page tables on its way, one access after another.
+#[derive(Debug, Drop)]
+pub struct Walker {
+    address: u64,
+    want: Want,
+    port: Port,
+    stage: Stage,
+}
+
+impl Model for Walker {
+    ghost use Rattle.vx_tables.specs.Walking.{Walking};
+
+    ghost Value = { Walking };
+
+    ghost view = { λ w. record { address = w.address; want = w.want; port = w.port; stage = w.stage } };
+}
+
+/// Whether bits 63 to 39 of an address equal bit 38.
+fn is_canonical(address: u64) -> bool
+    ensures { result ≡ is_canonical address }
+{
+    let above = address >> 38;
+    above == 0 || above == (1 << 26) - 1
+}
+
+/// The word of the entry for an address in the table in a frame.
+fn entry_word(frame: u32, address: u64, level: u32) -> u32
+    requires frame { frame < 16384 }
+    requires level { level < 3 }
+    ensures { result ≡ entry_word frame address level }
+{
+    512 * frame + (address >> (12 + 9 * level) & 511) as u32
+}
+
+/// What comes after the entry of that value was read in a table.
+fn stage_after(want: Want, address: u64, level: u32, frame: u32, value: u64) -> Stage
+    requires frame { frame < 16384 }
+    requires level { level < 3 }
+    requires value { frame_in value < 2 ^ 32 }
+    ensures { result ≡ stage_after want address level frame value }
+{
+    if level == 0 {
+        let word = entry_word(frame, address, 0);
+        let write = match leaf_written(want, value) {
+            None => None,
+            Some(value) => Some(TableEntry { word, value }),
+        };
+        return Stage::Ends(leaf_answer(want, value), write);
+    }
+    if is_pointer(value) {
+        return Stage::Reads(level - 1, frame_of(value));
+    }
+    Stage::Ends(Walked::Denied, None)
+}
+
+/// The stage in which a walk begins.
+fn first_stage(root: u32, address: u64) -> Stage
+    ensures { result ≡ first_stage root address }
+{
+    if is_canonical(address) {
+        Stage::Reads(2, root)
+    } else {
+        Stage::Ends(Walked::Denied, None)
+    }
+}
+
+/// Writes the entry at the end of a walk, where there is one.
+fn write_entry<C: Cells>(cells: &mut C, port: Port, write: Option<TableEntry>)
+    requires { CanWrite (C.state cells.old) write }
+    ensures { Makes (C.state cells.old) (C.state cells.new) (map (written_entry (C.state cells.old).cycle port) (option_to_list write)) }
+{
+    words_are_merged_by_bytes();
+    if let Some(entry) = write {
+        cells.write(port, entry.word, entry.value, u8::MAX);
+    }
+}
+
+impl Walker {
+    /// A walk for an address from the root of a process's tables, in frame `root`, with its accesses on that port. A walk for
+    /// an address that isn't canonical makes no access, and ends with Denied.
+    pub fn begin(root: u32, address: u64, want: Want, port: Port) -> Walker
+        ensures starts { result ≡ record { address = address; want = want; port = port; stage = first_stage root address } }
+        ensures walk { (residency : Residency) → IsPageList (pages_of residency) → IsWalk residency root result [] }
+    {
+        steps_follow_the_tables();
+        Walker {
+            address,
+            want,
+            port,
+            stage: first_stage(root, address),
+        }
+    }
+
+    /// Goes on with the walk at the current cycle: reads the next entry and answers `None`, or, once the entries lead no
+    /// further, ends it with its answer, and writes the leaf where A, or D for a store, is to be set. No tick of the walk has
+    /// answered `Some` before.
+    pub fn tick<C: Cells>(&mut self, cells: &mut C) -> Option<Walked>
+        requires { CanTick (C.state cells.old) self.old }
+        ensures steps { Steps (C.state cells.old) (C.state cells.new) self.old self.new self.old.stage result }
+        ensures walk { (residency : Residency) (root : ℕ) (done : List TableEntry) → AreHeld (C.state cells.old) root residency
+            → IsWalk residency root self.old done → StepsOn (C.state cells.old) (C.state cells.new) residency root self.old self.new done result }
+    {
+        steps_follow_the_tables();
+        match self.stage {
+            Stage::Reads(level, frame) => {
+                let value = cells.read(self.port, entry_word(frame, self.address, level));
+                self.stage = stage_after(self.want, self.address, level, frame, value);
+                None
+            }
+            Stage::Ends(answer, write) => {
+                write_entry(cells, self.port, write);
+                self.stage = Stage::Over;
+                Some(answer)
+            }
+            Stage::Over => unreachable!(),
+        }
+    }
+}
