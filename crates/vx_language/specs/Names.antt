@@ -1,7 +1,6 @@
 -- The names that a source may use: the integer registers' (RISC-V psABI, integer register convention; RISC-V Unprivileged
 -- ISA 20191213, section 2.1), the control registers' (RISC-V "V" 1.0, section 3) and the rows' mnemonics.
-use Rattle.std.specs.Prelude.{ℕ, pos, List, ◌++◌, map, find, position, codes, bytes_eq, decimal, Option, option_map}
-use Rattle.std.specs.List.{range_with_len}
+use Rattle.std.specs.Prelude.{ℕ, pos, List, [], ◌∷◌, find, position, codes, bytes_eq, Option, option_map}
 use Rattle.std.specs.Option.{option_or}
 use Rattle.vx_decode.specs.Decoded.{scalar_instr}
 use Rattle.vx_decode.specs.declared.instr.Instr.{Instr}
@@ -11,8 +10,13 @@ use Rattle.vx_rows.specs.declared.op.Op.{Op}
 use Rattle.vx_source.specs.Names.{register_names, NamedControl, named_controls}
 
 -- x0 to x31
-abbrev pub numbered_names : List (List ℕ)
-numbered_names = map (λ n. codes "x" ++ decimal n) (range_with_len 0 32)
+unfoldable pub numbered_names : List (List ℕ)
+numbered_names =
+    codes "x0" ∷ codes "x1" ∷ codes "x2" ∷ codes "x3" ∷ codes "x4" ∷ codes "x5" ∷ codes "x6" ∷ codes "x7" ∷
+    codes "x8" ∷ codes "x9" ∷ codes "x10" ∷ codes "x11" ∷ codes "x12" ∷ codes "x13" ∷ codes "x14" ∷ codes "x15" ∷
+    codes "x16" ∷ codes "x17" ∷ codes "x18" ∷ codes "x19" ∷ codes "x20" ∷ codes "x21" ∷ codes "x22" ∷ codes "x23" ∷
+    codes "x24" ∷ codes "x25" ∷ codes "x26" ∷ codes "x27" ∷ codes "x28" ∷ codes "x29" ∷ codes "x30" ∷ codes "x31" ∷
+    []
 
 -- the number of the integer register of this name, where one has it
 unfoldable pub register_number : List ℕ → Option ℕ
