@@ -5,6 +5,8 @@ use Rattle.std.specs.List.{prefix_len}
 use Rattle.vx_language.specs.Bytes.{newline, tab, space, quote, hash, minus, is_digit, begins_name, is_name_byte, is_mark}
 use Rattle.vx_language.specs.Numerals.{digits_length, number_value, is_number_value}
 use Rattle.vx_language.specs.Texts.{text_length, is_whole_text}
+use Rattle.vx_language.specs.declared.token.Beginning.{Beginning}
+use Rattle.vx_language.specs.declared.token.Beginning.TheVariants as begins
 use Rattle.vx_language.specs.declared.token.PieceKind.{PieceKind}
 use Rattle.vx_language.specs.declared.token.PieceKind.TheVariants.{Good, Bad, Stray, Blank}
 use Rattle.vx_language.specs.declared.token.Span.{Span}
@@ -21,40 +23,29 @@ abbrev pub span_of : Piece → Span
 span_of piece = record { start = piece.start; end = piece.start + length piece.text }
 
 -- what a piece can be, by its first byte
-pub data Beginning : Type 0 where
-  Line : Beginning
-  Gap : Beginning
-  Comment : Beginning
-  Sign : Beginning
-  Text : Beginning
-  Word : Beginning
-  Digits : Beginning
-  Negative : Beginning
-  Nothing : Beginning
-
 unfoldable pub beginning : ℕ → Beginning
 beginning byte =
-    if byte == newline then Line
-    else if byte == space || byte == tab then Gap
-    else if byte == hash then Comment
-    else if is_mark byte then Sign
-    else if byte == quote then Text
-    else if begins_name byte then Word
-    else if is_digit byte then Digits
-    else if byte == minus then Negative
-    else Nothing
+    if byte == newline then begins.Line
+    else if byte == space || byte == tab then begins.Gap
+    else if byte == hash then begins.Comment
+    else if is_mark byte then begins.Sign
+    else if byte == quote then begins.Text
+    else if begins_name byte then begins.Word
+    else if is_digit byte then begins.Digits
+    else if byte == minus then begins.Negative
+    else begins.Nothing
 
 -- how many of the bytes, which begin so, are of the first piece: as many as can be
 unfoldable pub piece_length : Beginning → List ℕ → ℕ
-piece_length Line bytes = 1
-piece_length Gap bytes = 1
-piece_length Comment bytes = prefix_len (λ byte. not (byte == newline)) bytes
-piece_length Sign bytes = 1
-piece_length Text bytes = 1 + text_length false (drop 1 bytes)
-piece_length Word bytes = prefix_len is_name_byte bytes
-piece_length Digits bytes = digits_length bytes
-piece_length Negative bytes = 1 + digits_length (drop 1 bytes)
-piece_length Nothing bytes = 1
+piece_length begins.Line bytes = 1
+piece_length begins.Gap bytes = 1
+piece_length begins.Comment bytes = prefix_len (λ byte. not (byte == newline)) bytes
+piece_length begins.Sign bytes = 1
+piece_length begins.Text bytes = 1 + text_length false (drop 1 bytes)
+piece_length begins.Word bytes = prefix_len is_name_byte bytes
+piece_length begins.Digits bytes = digits_length bytes
+piece_length begins.Negative bytes = 1 + digits_length (drop 1 bytes)
+piece_length begins.Nothing bytes = 1
 
 -- what a number of this text is: a good one within its range
 unfoldable pub number_kind : List ℕ → PieceKind
@@ -62,18 +53,18 @@ number_kind text = if is_number_value (number_value text) then Good token.Number
 
 -- what a piece of this text is, which begins so
 unfoldable pub kind_of : Beginning → List ℕ → PieceKind
-kind_of Line text = Good token.Newline
-kind_of Gap text = Blank
-kind_of Comment text = Blank
-kind_of Sign text = Good token.Mark
-kind_of Text text = if is_whole_text false (drop 1 text) then Good token.Quoted else Bad token.Quoted
-kind_of Word text = Good token.Name
-kind_of Digits text = number_kind text
-kind_of Negative text = if length text == 1 then Stray else number_kind text
-kind_of Nothing text = Stray
+kind_of begins.Line text = Good token.Newline
+kind_of begins.Gap text = Blank
+kind_of begins.Comment text = Blank
+kind_of begins.Sign text = Good token.Mark
+kind_of begins.Text text = if is_whole_text false (drop 1 text) then Good token.Quoted else Bad token.Quoted
+kind_of begins.Word text = Good token.Name
+kind_of begins.Digits text = number_kind text
+kind_of begins.Negative text = if length text == 1 then Stray else number_kind text
+kind_of begins.Nothing text = Stray
 
 unfoldable pub piece_with : Beginning → ℕ → List ℕ → Piece
-piece_with begins start text = record { kind = kind_of begins text; start = start; text = text }
+piece_with first start text = record { kind = kind_of first text; start = start; text = text }
 
 -- the first piece of bytes, which begin with this one and stand from this offset on
 unfoldable pub first_piece : ℕ → ℕ → List ℕ → Piece

@@ -12,4 +12,4 @@ mod token;
 
 pub use fault::{Fault, FaultKind};
 pub use laws::examples_hold;
-pub use token::{PieceKind, Span, Token, TokenKind};
+pub use token::{Beginning, PieceKind, Span, Token, TokenKind};

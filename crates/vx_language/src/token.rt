@@ -44,3 +44,26 @@ pub enum PieceKind {
     /// A space, a tab or a comment.
     Blank,
 }
+
+/// What a piece of a source can be, by its first byte.
+#[derive(Clone, Copy, PartialEq, Eq, Debug)]
+pub enum Beginning {
+    /// A newline.
+    Line,
+    /// A space or a tab.
+    Gap,
+    /// A comment, which `#` begins.
+    Comment,
+    /// A mark.
+    Sign,
+    /// A text, which `"` begins.
+    Text,
+    /// A name.
+    Word,
+    /// A number without sign.
+    Digits,
+    /// A number, or nothing: `-`.
+    Negative,
+    /// Nothing: no piece but the byte itself begins with it.
+    Nothing,
+}
