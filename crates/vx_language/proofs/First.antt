@@ -23,16 +23,16 @@ rank-below TooLarge = omega arith
 
 same-start : (start first second : ℕ) → ltb first second ≡ ltb (start * 8 + first) (start * 8 + second)
 same-start start first second = elim (cases_lt first second) [
-      inl below ↦ lt-ltb first second below ∙ sym (lt-ltb (start * 8 + first) (start * 8 + second) (omega (arith, below)))
-    | inr above ↦ le-ltb first second above ∙ sym (le-ltb (start * 8 + first) (start * 8 + second) (omega (arith, above)))
-    ]
+  | inl below ↦ lt-ltb first second below ∙ sym (lt-ltb (start * 8 + first) (start * 8 + second) (omega (arith, below)))
+  | inr above ↦ le-ltb first second above ∙ sym (le-ltb (start * 8 + first) (start * 8 + second) (omega (arith, above)))
+]
 
 in-order : (s t r q : ℕ) → r < 8 → q < 8 → (ltb s t || (eqb s t && ltb r q)) ≡ ltb (s * 8 + r) (t * 8 + q)
 in-order s t r q first second = elim (cases_order s t) [
-      inl same ↦ rw (le-ltb s t (omega (arith, same))) (rw (eq-eqb s t same) (same-start s r q ∙ ap (λ n. ltb (s * 8 + r) (n * 8 + q)) same))
-    | inr (inl below) ↦ rw (lt-ltb s t below) (sym (lt-ltb (s * 8 + r) (t * 8 + q) (omega (arith, below, first, second))))
-    | inr (inr above) ↦ rw (le-ltb s t (omega (arith, above))) (rw (ne_eqb s t (λ e. let e : s ≡ t = e in omega (arith, e, above))) (sym (le-ltb (s * 8 + r) (t * 8 + q) (omega (arith, above, first, second)))))
-    ]
+  | inl same ↦ rw (le-ltb s t (omega (arith, same))) (rw (eq-eqb s t same) (same-start s r q ∙ ap (λ n. ltb (s * 8 + r) (n * 8 + q)) same))
+  | inr (inl below) ↦ rw (lt-ltb s t below) (sym (lt-ltb (s * 8 + r) (t * 8 + q) (omega (arith, below, first, second))))
+  | inr (inr above) ↦ rw (le-ltb s t (omega (arith, above))) (rw (ne_eqb s t (λ e. let e : s ≡ t = e in omega (arith, e, above))) (sym (le-ltb (s * 8 + r) (t * 8 + q) (omega (arith, above, first, second)))))
+]
 
 -- one comes before another where its number is less
 comes_before-key : (one other : Fault) → comes_before one other ≡ ltb (key one) (key other)

@@ -1,5 +1,5 @@
 -- Numbers of digits, cut at a number.
-use Rattle.std.proofs.Common.{◌≡◌, ℕ, true, length, drop, get_or, ◌+◌, ◌*◌, ◌<◌, ◌≤◌, min, ◌⊎◌, List, [], ◌∷◌, refl, sym, ◌∙◌, ap, arith, inl, inr}
+use Rattle.std.proofs.Common.{◌≡◌, ℕ, true, length, drop, get_or, ◌+◌, ◌*◌, ◌<◌, ◌≤◌, min, List, [], ◌∷◌, sym, ◌∙◌, ap, arith, inl, inr}
 use Rattle.std.proofs.Math.Nat.{min-eq_left, mul-le-mul_left, mul-le-mul_right}
 use Rattle.std.proofs.Math.ListN.{drop_of_length-le}
 use Rattle.std.proofs.lemmas.Bool.{cases_lt}
@@ -15,13 +15,13 @@ digits_behind base value digits = fold (λ (value digit : ℕ). value * base + d
 -- a number cut at `cap` leads to the same cut number
 pub step-cut : (base cap value digit : ℕ) → 1 ≤ base → min (min value cap * base + digit) cap ≡ min (value * base + digit) cap
 step-cut base cap value digit h = elim (cases_lt value cap) [
-      inl below ↦ ap (λ v. min (v * base + digit) cap) (min-eq_left (omega (arith, below)))
-    | inr above ↦
-        let cut : min value cap ≡ cap = omega arith in
-        let first : cap * 1 ≤ cap * base = mul-le-mul_left cap h in
-        let second : cap * base ≤ value * base = mul-le-mul_right base (omega arith) in
-        ap (λ v. min (v * base + digit) cap) cut ∙ omega (arith, first, second)
-    ]
+  | inl below ↦ ap (λ v. min (v * base + digit) cap) (min-eq_left (omega (arith, below)))
+  | inr above ↦
+      let cut : min value cap ≡ cap = omega arith in
+      let first : cap * 1 ≤ cap * base = mul-le-mul_left cap h in
+      let second : cap * base ≤ value * base = mul-le-mul_right base (omega arith) in
+      ap (λ v. min (v * base + digit) cap) cut ∙ omega (arith, first, second)
+]
 
 pub digits_behind-cut : (base cap value : ℕ) (digits : List ℕ) → 1 ≤ base → min (digits_behind base (min value cap) digits) cap ≡ min (digits_behind base value digits) cap
 digits_behind-cut base cap value [] h = omega arith
@@ -44,8 +44,8 @@ digits_behind-end base value digits i past = ap (digits_behind base value) (drop
 pub hex_digit_is_there : (bytes : List ℕ) (n : ℕ) → is_hex_digit (get_or bytes n 0) ≡ true → n < length bytes
 unfolding is_hex_digit is_digit
 hex_digit_is_there bytes n is = elim (cases_lt n (length bytes)) [
-      inl within ↦ within
-    | inr past ↦
-        let none : is_hex_digit 0 ≡ true = sym (ap is_hex_digit (get_or_past bytes n 0 past)) ∙ is in
-        absurd cc
-    ]
+  | inl within ↦ within
+  | inr past ↦
+      let none : is_hex_digit 0 ≡ true = sym (ap is_hex_digit (get_or_past bytes n 0 past)) ∙ is in
+      absurd cc
+]

@@ -141,7 +141,7 @@ length-at source rest from count first is within begins size =
     let at : rest ≡ get_or source from 0 ∷ drop (from + 1) source = is ∙ drop_more source from 0 within in
     let byte : first ≡ beginning (get_or source from 0) = begins ∙ ap beginning (first-is source rest from is) in
     subst (λ n. 0 < n) (sym (size ∙ (ap (λ f. piece_length f rest) byte ∙ ap (piece_length (beginning (get_or source from 0))) at)))
-        (piece_length-some (get_or source from 0) (drop (from + 1) source))
+    (piece_length-some (get_or source from 0) (drop (from + 1) source))
 
 -- the bytes of a piece
 pub text-some : (rest : List ℕ) (count : ℕ) → 0 < count → count ≤ length rest → 0 < length (take count rest)
@@ -164,7 +164,7 @@ begins-at source rest from count first kind is within begins size room named =
       some = omega (arith, some);
       within = omega (arith, long, fits, within);
       pieces =
-        pieces_from-step source from count within known long
-        ∙ (ap (λ (k : PieceKind). record { kind = k; start = from; text = take count (drop from source) } ∷ pieces_from source (from + count)) (sym kinds)
-        ∙ ap (λ n. record { kind = kind; start = from; text = take n (drop from source) } ∷ pieces_from source (from + count)) cut);
+          pieces_from-step source from count within known long
+          ∙ (ap (λ (k : PieceKind). record { kind = k; start = from; text = take count (drop from source) } ∷ pieces_from source (from + count)) (sym kinds)
+          ∙ ap (λ n. record { kind = kind; start = from; text = take n (drop from source) } ∷ pieces_from source (from + count)) cut);
     }

@@ -1,5 +1,5 @@
 -- Texts, one byte after the other.
-use Rattle.std.proofs.Common.{◌≡◌, ℕ, true, false, ◌+◌, ◌<◌, List, ◌∷◌, [], ◌++◌, length, drop, get_or, eqb, ◌∙◌, ap, refl}
+use Rattle.std.proofs.Common.{◌≡◌, ℕ, true, false, ◌+◌, ◌<◌, List, [], ◌++◌, length, drop, get_or, eqb, ◌∙◌, ap, refl}
 use Rattle.std.proofs.lemmas.List.{drop_more}
 use Rattle.std.specs.Prelude.{Bool}
 use Rattle.vx_language.specs.Bytes.{newline}

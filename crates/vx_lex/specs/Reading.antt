@@ -1,6 +1,6 @@
 -- What the lexer answers. This project's own.
-use Rattle.std.specs.Prelude.{◌≡◌, ℕ, List, [], Option, Some, None, option_map, Result, Ok, Err}
-use Rattle.vx_language.specs.Faults.{earlier, first_of}
+use Rattle.std.specs.Prelude.{◌≡◌, ℕ, List, [], Option, Some, None, Result, Ok, Err}
+use Rattle.vx_language.specs.Faults.{first_of}
 use Rattle.vx_language.specs.Lexemes.{pieces}
 use Rattle.vx_language.specs.Tokens.{lexical_faults, bad_pieces, tokens}
 use Rattle.vx_language.specs.declared.fault.Fault.{Fault}
@@ -23,14 +23,13 @@ Reads source (Err NoMemory) = Unit {0}
 
 -- the same of the pieces alone
 abbrev pub ReadsPieces : List ℕ → Result (List Token) LexFault → Type 0
-ReadsPieces source (Ok list) = (bad_pieces (pieces source) ≡ []) × (list ≡ tokens source)
+ReadsPieces source (Ok list) = (first_of (bad_pieces (pieces source)) ≡ None) × (list ≡ tokens source)
 ReadsPieces source (Err (BadByte span)) = ⊥
 ReadsPieces source (Err (BadToken span)) = first_of (bad_pieces (pieces source)) ≡ Some (bad_token_at span)
 ReadsPieces source (Err NoMemory) = Unit {0}
 
--- the fault is the first of a bad byte, where there is one, and a bad token
-abbrev pub IsFirstWith : Option Span → Span → LexFault → Type 0
-IsFirstWith byte token (BadByte span) = (byte ≡ Some span) × (earlier (bad_byte_at span) (Some (bad_token_at token)) ≡ bad_byte_at span)
-IsFirstWith None token (BadToken span) = span ≡ token
-IsFirstWith (Some byte) token (BadToken span) = (span ≡ token) × (earlier (bad_byte_at byte) (Some (bad_token_at token)) ≡ bad_token_at token)
-IsFirstWith byte token NoMemory = ⊥
+-- the fault that an answer tells, where it tells one
+abbrev pub fault_told : LexFault → Option Fault
+fault_told (BadByte span) = Some (bad_byte_at span)
+fault_told (BadToken span) = Some (bad_token_at span)
+fault_told NoMemory = None

@@ -94,7 +94,10 @@ pub fn first_bad_byte(source: &[u8]) -> Option<Span>
 {
     for (i, byte) in source.iter().enumerate() {
         if !is_source_byte(*byte) {
-            return Some(Span { start: i as u64, end: i as u64 + 1 });
+            return Some(Span {
+                start: i as u64,
+                end: i as u64 + 1,
+            });
         }
     }
     None

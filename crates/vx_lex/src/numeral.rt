@@ -99,9 +99,17 @@ pub fn number_of(text: &[u8]) -> Option<i128>
 {
     if byte_at(text, 0) == b'-' {
         let value = magnitude(&text[1..]);
-        if value <= 1 << 63 { Some(-(value as i128)) } else { None }
+        if value <= 1 << 63 {
+            Some(-(value as i128))
+        } else {
+            None
+        }
     } else {
         let value = magnitude(text);
-        if value < TOO_LARGE { Some(value as i128) } else { None }
+        if value < TOO_LARGE {
+            Some(value as i128)
+        } else {
+            None
+        }
     }
 }

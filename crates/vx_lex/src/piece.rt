@@ -31,7 +31,13 @@ pub fn piece_at(source: &[u8], from: usize) -> Option<Piece>
     let begins = beginning(rest[0]);
     let length = piece_length(begins, rest);
     let kind = kind_of(begins, &rest[..length]);
-    Some(Piece { kind, span: Span { start: from as u64, end: (from + length) as u64 } })
+    Some(Piece {
+        kind,
+        span: Span {
+            start: from as u64,
+            end: (from + length) as u64,
+        },
+    })
 }
 
 /// How many of these bytes are of their first piece, which begins so.

@@ -1,5 +1,4 @@
 use Rattle.std.proofs.Common.{◌≡◌, drop}
-use Rattle.vx_language.specs.Faults.{first_of}
 use Rattle.vx_language.specs.Tokens.{bad_bytes}
 use Rattle.vx_lex.proofs.byte.first_bad_byte.Given as goal
 

@@ -1,4 +1,4 @@
-use Rattle.std.proofs.Common.{◌≡◌, ℕ, ◌^◌, ◌≤◌, min, drop}
+use Rattle.std.proofs.Common.{◌≡◌, ◌^◌, ◌≤◌, min, drop}
 use Rattle.vx_lex.proofs.Digits.{digits_behind}
 use Rattle.vx_lex.proofs.numeral.from_digits.Given as goal
 

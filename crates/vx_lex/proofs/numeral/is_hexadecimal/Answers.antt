@@ -1,4 +1,4 @@
-use Rattle.std.proofs.Common.{◌≡◌, true, ◌∙◌, sym}
+use Rattle.std.proofs.Common.{◌≡◌, true}
 use Rattle.vx_lex.proofs.Digits.{hex_digit_is_there}
 use Rattle.vx_lex.proofs.numeral.is_hexadecimal.Goals as goal
 

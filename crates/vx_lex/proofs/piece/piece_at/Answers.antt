@@ -1,4 +1,4 @@
-use Rattle.std.proofs.Common.{◌≡◌, ℕ, List, ◌-◌, length, take, drop, arith}
+use Rattle.std.proofs.Common.{ℕ, List, ◌-◌, length, take, drop}
 use Rattle.vx_lex.proofs.Pieces.{begins-at, length-at, text-some, rest-is}
 use Rattle.vx_lex.proofs.piece.piece_at.Goals as goal
 
@@ -8,8 +8,8 @@ kind_of-kind-requires c =
     let rest : List ℕ = take (length source - c.args.from) (drop c.args.from source) in
     let length = c.piece_length-length in
     text-some rest length.result
-        (length-at source rest c.args.from length.result c.beginning-begins.result (rest-is source c.args.from) c.if-from-source.false c.beginning-begins.ensures length.ensures.value)
-        length.ensures.within
+    (length-at source rest c.args.from length.result c.beginning-begins.result (rest-is source c.args.from) c.if-from-source.false c.beginning-begins.ensures length.ensures.value)
+    length.ensures.within
 
 pub returns-clause-piece : goal.returns-clause-piece
 returns-clause-piece c =

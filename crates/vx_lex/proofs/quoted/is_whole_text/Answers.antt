@@ -1,4 +1,4 @@
-use Rattle.std.proofs.Common.{length, sym, ◌∙◌, ap, drop, ◌+◌, arith}
+use Rattle.std.proofs.Common.{sym, ◌∙◌, ap, drop, ◌+◌, arith}
 use Rattle.std.proofs.Math.ListN.{drop_of_length-le}
 use Rattle.vx_language.specs.Texts.{is_whole_text}
 use Rattle.vx_lex.proofs.Quotes.{is_whole_text-broken, is_whole_text-closed, is_whole_text-more}

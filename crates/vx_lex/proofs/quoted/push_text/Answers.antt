@@ -1,6 +1,6 @@
-use Rattle.std.proofs.Common.{List, ℕ, length, get_or, sym, ◌∙◌, ap, drop, ◌+◌, [], ◌++◌, append_assoc, append-nil, arith}
+use Rattle.std.proofs.Common.{List, ℕ, get_or, sym, ◌∙◌, ap, drop, ◌+◌, ◌++◌, append_assoc, append-nil, arith}
 use Rattle.std.proofs.Math.ListN.{drop_of_length-le}
-use Rattle.vx_language.specs.Texts.{escapes, meant, text_bytes}
+use Rattle.vx_language.specs.Texts.{meant, text_bytes}
 use Rattle.vx_lex.proofs.Quotes.{text_bytes-closed, text_bytes-more}
 use Rattle.vx_lex.proofs.quoted.push_text.Goals as goal
 

@@ -1,8 +1,8 @@
-use Rattle.std.proofs.Common.{◌≡◌, false, eqb, length, drop, get_or, ◌+◌, sym, ◌∙◌, ap, arith}
+use Rattle.std.proofs.Common.{◌≡◌, false, eqb, drop, ◌+◌, sym, ◌∙◌, ap, arith}
 use Rattle.std.proofs.Math.ListN.{drop_of_length-le}
 use Rattle.std.proofs.lemmas.Bool.{ne_eqb}
 use Rattle.vx_language.specs.Bytes.{newline}
-use Rattle.vx_language.specs.Texts.{escapes, text_length}
+use Rattle.vx_language.specs.Texts.{text_length}
 use Rattle.vx_lex.proofs.Quotes.{text_length-newline, text_length-closed, text_length-more}
 use Rattle.vx_lex.proofs.quoted.text_length.Goals as goal
 
