@@ -8,6 +8,8 @@
 
 mod fault;
 mod laws;
+#[cfg(test)]
+mod tests;
 mod token;
 
 pub use fault::{Fault, FaultKind};
