@@ -1,0 +1,15 @@
+pub mod Assembly
+pub mod Bytes
+pub mod Code
+pub mod Examples
+pub mod Faults
+pub mod Forms
+pub mod Lexemes
+pub mod Lines
+pub mod Names
+pub mod Numerals
+pub mod Places
+pub mod Slots
+pub mod Statements
+pub mod Texts
+pub mod Tokens
