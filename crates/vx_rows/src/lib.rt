@@ -3,13 +3,14 @@
 //!
 //! It stands on `vx_base`. To the crates above it gives the operations, the table of rows as a definition and as
 //! `rows`, the law that no word has the fixed bits of two rows, and the class, the shape and the mnemonic of each
-//! operation.
+//! operation; for vector arithmetic its family, with the unit and the operands of each.
 #![tactic(auto)]
 
+mod family;
+mod lines;
 mod op;
 mod row;
-mod table;
 
-pub use op::{Op, ScalarOp};
-pub use row::{Class, Row, Shape};
-pub use table::{fits_one_at_most, name_of, rows};
+pub use family::{Family, Operand, Operands, Unit};
+pub use op::{ElemOp, FixedOp, MaskOp, MemoryOp, Op, PermOp, ScalarOp, SetOp, WidenOp};
+pub use row::{Addressing, Class, Eew, First, Row, Second, Shape, Vm};
