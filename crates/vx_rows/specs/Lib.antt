@@ -1,3 +1,4 @@
 pub mod Families
+pub mod Layouts
 pub mod Lines
 pub mod Table

@@ -1,7 +1,7 @@
 -- The rows of the instruction set, one line an operation: RISC-V Unprivileged ISA 20191213, chapter 24 (instruction
 -- listings), and RISC-V "V" 1.0, sections 6, 7, 10 and 11 to 16.
 use Prim.Native.String.{String}
-use Rattle.std.specs.Prelude.{ℕ, zero, suc, ◌+◌, ◌*◌, ◌^◌, List, ◌++◌, codes, decimal}
+use Rattle.std.specs.Prelude.{ℕ, zero, suc, ◌+◌, ◌*◌, ◌^◌, List, [], ◌∷◌, ◌++◌, codes}
 use Rattle.vx_rows.specs.declared.family.Family.{Family}
 use Rattle.vx_rows.specs.declared.family.Family.TheVariants as family
 use Rattle.vx_rows.specs.declared.op.ScalarOp.{ScalarOp}
@@ -41,16 +41,20 @@ pub data Mnemonic : Type 0 where
   Counted : (stem tail : List ℕ) → Mnemonic
   Segments : (stem tail : List ℕ) → Mnemonic
 
--- the mnemonic of a row with this field nf, which is one less than the number of fields or registers
+-- the decimal digit of a number below 10
+abbrev digit : ℕ → List ℕ
+digit n = (48 + n) ∷ []
+
+-- the mnemonic of a row with this field nf, which is below 8 and one less than the number of fields or registers
 abbrev pub spelled : Mnemonic → (nf : ℕ) → List ℕ
 spelled (Plain text) nf = text
-spelled (Counted stem tail) nf = stem ++ decimal (nf + 1) ++ tail
+spelled (Counted stem tail) nf = stem ++ digit (nf + 1) ++ tail
 spelled (Segments stem tail) zero = stem ++ tail
-spelled (Segments stem tail) (suc n) = stem ++ codes "seg" ++ decimal (n + 2) ++ tail
+spelled (Segments stem tail) (suc n) = stem ++ codes "seg" ++ digit (n + 2) ++ tail
 
 -- what the table says of an operation
 pub record Line : Type 0 where
-  -- the fixed bits of its rows, without bit 25 (vm) and bits 31 to 29 (nf) of a vector row
+  -- the fixed bits of its rows, without bits 31 to 29 (nf) of a vector load or store
   pub bits : ℕ
   pub shape : Shape
   pub class : Class
@@ -147,10 +151,16 @@ set_line Vsetvl = set 0x80007057 shape.SetRegister "vsetvl"
 -- ---- vector arithmetic: the form of the operands, funct6, the number that selects an operation with one source, the mask,
 -- the mnemonic, the family
 
+-- bit 25 of a row, where it is fixed
+abbrev vm_bit : Vm → ℕ
+vm_bit vm.Any = 0
+vm_bit vm.Zero = 0
+vm_bit vm.One = 1
+
 -- the opcode is OP-V, and funct3 the category's number
 abbrev vector : (category funct6 : ℕ) → First → Second → Vm → String → Family → Line
 vector category funct6 first second vm text family =
-    record { bits = 0x57 + category * 2 ^ 12 + funct6 * 2 ^ 26; shape = shape.Vector first second vm; class = class.VectorArithmetic family; mnemonic = Plain (codes text) }
+    record { bits = 0x57 + category * 2 ^ 12 + vm_bit vm * 2 ^ 25 + funct6 * 2 ^ 26; shape = shape.Vector first second vm; class = class.VectorArithmetic family; mnemonic = Plain (codes text) }
 
 -- categories OPIVV, OPMVV, OPIVI, OPIVX and OPMVX, where vs2 is a register
 abbrev ivv : ℕ → Vm → String → Family → Line
@@ -438,11 +448,11 @@ width_number E16 = 0b101
 width_number E32 = 0b110
 width_number E64 = 0b111
 
--- mop (bits 27 and 26), and what stands in the place of rs2 where no operand does (lumop, sumop)
+-- mop (bits 27 and 26), what stands in the place of rs2 where no operand does (lumop, sumop), and bit 25 where it is fixed
 abbrev addressing_bits : Addressing → ℕ
 addressing_bits Unit = 0b00 * 2 ^ 26 + 0b00000 * 2 ^ 20
-addressing_bits Whole = 0b00 * 2 ^ 26 + 0b01000 * 2 ^ 20
-addressing_bits MaskBits = 0b00 * 2 ^ 26 + 0b01011 * 2 ^ 20
+addressing_bits Whole = 0b00 * 2 ^ 26 + 0b01000 * 2 ^ 20 + 2 ^ 25
+addressing_bits MaskBits = 0b00 * 2 ^ 26 + 0b01011 * 2 ^ 20 + 2 ^ 25
 addressing_bits FaultOnlyFirst = 0b00 * 2 ^ 26 + 0b10000 * 2 ^ 20
 addressing_bits Unordered = 0b01 * 2 ^ 26
 addressing_bits Strided = 0b10 * 2 ^ 26
@@ -451,8 +461,8 @@ addressing_bits Ordered = 0b11 * 2 ^ 26
 abbrev addressing_shape : Addressing → Shape
 addressing_shape Unit = shape.UnitMemory
 addressing_shape FaultOnlyFirst = shape.UnitMemory
-addressing_shape Whole = shape.PlainMemory
-addressing_shape MaskBits = shape.PlainMemory
+addressing_shape Whole = shape.WholeMemory
+addressing_shape MaskBits = shape.MaskMemory
 addressing_shape Strided = shape.StridedMemory
 addressing_shape Unordered = shape.IndexedMemory
 addressing_shape Ordered = shape.IndexedMemory
@@ -481,11 +491,6 @@ memory_line Vse8 = store Unit E8 (segments "vs" "e8.v")
 memory_line Vse16 = store Unit E16 (segments "vs" "e16.v")
 memory_line Vse32 = store Unit E32 (segments "vs" "e32.v")
 memory_line Vse64 = store Unit E64 (segments "vs" "e64.v")
-memory_line Vlre8 = load Whole E8 (counted "vl" "re8.v")
-memory_line Vlre16 = load Whole E16 (counted "vl" "re16.v")
-memory_line Vlre32 = load Whole E32 (counted "vl" "re32.v")
-memory_line Vlre64 = load Whole E64 (counted "vl" "re64.v")
-memory_line Vsr = store Whole E8 (counted "vs" "r.v")
 memory_line Vlm = load MaskBits E8 (Plain (codes "vlm.v"))
 memory_line Vsm = store MaskBits E8 (Plain (codes "vsm.v"))
 memory_line Vle8ff = load FaultOnlyFirst E8 (segments "vl" "e8ff.v")
@@ -516,3 +521,8 @@ memory_line Vsoxei8 = store Ordered E8 (segments "vsox" "ei8.v")
 memory_line Vsoxei16 = store Ordered E16 (segments "vsox" "ei16.v")
 memory_line Vsoxei32 = store Ordered E32 (segments "vsox" "ei32.v")
 memory_line Vsoxei64 = store Ordered E64 (segments "vsox" "ei64.v")
+memory_line Vlre8 = load Whole E8 (counted "vl" "re8.v")
+memory_line Vlre16 = load Whole E16 (counted "vl" "re16.v")
+memory_line Vlre32 = load Whole E32 (counted "vl" "re32.v")
+memory_line Vlre64 = load Whole E64 (counted "vl" "re64.v")
+memory_line Vsr = store Whole E8 (counted "vs" "r.v")

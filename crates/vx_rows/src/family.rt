@@ -290,11 +290,22 @@ macro_rules! families {
     };
 }
 
-
 macro_rules! match_unit {
     ($family:expr; $($name:ident = $unit:ident, $destination:ident, $vs2:ident, $vs1:ident;)*) => {
         match $family {
             $(Family::$name => Unit::$unit,)*
+        }
+    };
+}
+
+macro_rules! match_operands {
+    ($family:expr; $($name:ident = $unit:ident, $destination:ident, $vs2:ident, $vs1:ident;)*) => {
+        match $family {
+            $(Family::$name => Operands {
+                destination: Operand::$destination,
+                vs2: Operand::$vs2,
+                vs1: Operand::$vs1,
+            },)*
         }
     };
 }
@@ -305,5 +316,12 @@ impl Family {
         ensures { result ≡ unit_of self }
     {
         families!(match_unit, self)
+    }
+
+    /// Its operands.
+    pub fn operands(self) -> Operands
+        ensures { result ≡ operands_of self }
+    {
+        families!(match_operands, self)
     }
 }

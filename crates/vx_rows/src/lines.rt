@@ -9,7 +9,7 @@
 
 /// The rows of RV64I, M and Zicsr: fixed bits, shape, class, mnemonic (RISC-V Unprivileged ISA 20191213, chapter 24).
 macro_rules! scalar_lines {
-    ($then:ident $(, $argument:expr)?) => {
+    ($then:ident $(, $argument:tt)?) => {
         $then! {
             $($argument;)?
             Lui = scalar(0x37, Upper, Arithmetic, "lui"),
@@ -89,7 +89,7 @@ macro_rules! scalar_lines {
 
 /// The rows that configure the vector unit: fixed bits, shape, mnemonic (RISC-V "V" 1.0, section 6).
 macro_rules! set_lines {
-    ($then:ident $(, $argument:expr)?) => {
+    ($then:ident $(, $argument:tt)?) => {
         $then! {
             $($argument;)?
             Vsetvli = set(0x7057, SetType, "vsetvli"),
@@ -101,7 +101,7 @@ macro_rules! set_lines {
 
 /// Vector arithmetic at a single width.
 macro_rules! elem_lines {
-    ($then:ident $(, $argument:expr)?) => {
+    ($then:ident $(, $argument:tt)?) => {
         $then! {
             $($argument;)?
             VaddVv = ivv(0b000000, Any, "vadd.vv", Vadd),
@@ -183,7 +183,7 @@ macro_rules! elem_lines {
 
 /// Vector arithmetic that widens, narrows, carries or compares.
 macro_rules! widen_lines {
-    ($then:ident $(, $argument:expr)?) => {
+    ($then:ident $(, $argument:tt)?) => {
         $then! {
             $($argument;)?
             VadcVvm = ivv(0b010000, Zero, "vadc.vvm", Vadc),
@@ -262,7 +262,7 @@ macro_rules! widen_lines {
 
 /// Vector arithmetic with a fixed point.
 macro_rules! fixed_lines {
-    ($then:ident $(, $argument:expr)?) => {
+    ($then:ident $(, $argument:tt)?) => {
         $then! {
             $($argument;)?
             VsadduVv = ivv(0b100000, Any, "vsaddu.vv", Vsaddu),
@@ -303,7 +303,7 @@ macro_rules! fixed_lines {
 
 /// Reductions and masks.
 macro_rules! mask_lines {
-    ($then:ident $(, $argument:expr)?) => {
+    ($then:ident $(, $argument:tt)?) => {
         $then! {
             $($argument;)?
             VredsumVs = mvv(0b000000, Any, "vredsum.vs", Vredsum),
@@ -338,7 +338,7 @@ macro_rules! mask_lines {
 
 /// Permutations.
 macro_rules! perm_lines {
-    ($then:ident $(, $argument:expr)?) => {
+    ($then:ident $(, $argument:tt)?) => {
         $then! {
             $($argument;)?
             VrgatherVv = ivv(0b001100, Any, "vrgather.vv", Vrgather),
@@ -357,10 +357,10 @@ macro_rules! perm_lines {
     };
 }
 
-/// Vector loads and stores: direction, addressing, encoded width, and the mnemonic before and behind its number of fields or registers
-/// (RISC-V "V" 1.0, section 7).
+/// Vector loads and stores with any number of fields, and those of masks: direction, addressing, encoded width, and the
+/// mnemonic before and behind its number of fields (RISC-V "V" 1.0, section 7).
 macro_rules! memory_lines {
-    ($then:ident $(, $argument:expr)?) => {
+    ($then:ident $(, $argument:tt)?) => {
         $then! {
             $($argument;)?
             Vle8 = segments(Load, Unit, E8, "vl", "e8.v"),
@@ -371,11 +371,6 @@ macro_rules! memory_lines {
             Vse16 = segments(Store, Unit, E16, "vs", "e16.v"),
             Vse32 = segments(Store, Unit, E32, "vs", "e32.v"),
             Vse64 = segments(Store, Unit, E64, "vs", "e64.v"),
-            Vlre8 = counted(Load, Whole, E8, "vl", "re8.v"),
-            Vlre16 = counted(Load, Whole, E16, "vl", "re16.v"),
-            Vlre32 = counted(Load, Whole, E32, "vl", "re32.v"),
-            Vlre64 = counted(Load, Whole, E64, "vl", "re64.v"),
-            Vsr = counted(Store, Whole, E8, "vs", "r.v"),
             Vlm = plain(Load, MaskBits, E8, "vl", "m.v"),
             Vsm = plain(Store, MaskBits, E8, "vs", "m.v"),
             Vle8ff = segments(Load, FaultOnlyFirst, E8, "vl", "e8ff.v"),
@@ -410,11 +405,27 @@ macro_rules! memory_lines {
     };
 }
 
-pub(crate) use scalar_lines;
-pub(crate) use set_lines;
+/// Loads and stores of whole registers, a row each for 1, 2, 4 and 8 of them: direction, encoded width, and the mnemonic
+/// before and behind its number of registers (RISC-V "V" 1.0, section 7.9).
+macro_rules! whole_lines {
+    ($then:ident $(, $argument:tt)?) => {
+        $then! {
+            $($argument;)?
+            Vlre8 = whole(Load, E8, "vl", "re8.v"),
+            Vlre16 = whole(Load, E16, "vl", "re16.v"),
+            Vlre32 = whole(Load, E32, "vl", "re32.v"),
+            Vlre64 = whole(Load, E64, "vl", "re64.v"),
+            Vsr = whole(Store, E8, "vs", "r.v"),
+        }
+    };
+}
+
 pub(crate) use elem_lines;
-pub(crate) use widen_lines;
 pub(crate) use fixed_lines;
 pub(crate) use mask_lines;
-pub(crate) use perm_lines;
 pub(crate) use memory_lines;
+pub(crate) use perm_lines;
+pub(crate) use scalar_lines;
+pub(crate) use set_lines;
+pub(crate) use whole_lines;
+pub(crate) use widen_lines;

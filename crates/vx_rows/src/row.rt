@@ -76,12 +76,58 @@ pub enum Shape {
     Vector(First, Second, Vm),
     /// `vd` or `vs3`, the address in `rs1`, the mask, and the number of fields.
     UnitMemory,
+    /// `vd` or `vs3`, and the address in `rs1`; the number of registers has a row each.
+    WholeMemory,
     /// `vd` or `vs3`, and the address in `rs1`.
-    PlainMemory,
+    MaskMemory,
     /// As `UnitMemory`, and the stride in `rs2`.
     StridedMemory,
     /// As `UnitMemory`, and the indices in `vs2`.
     IndexedMemory,
+}
+
+/// The number of an instruction: where it stands in a word, and how it is read (RISC-V Unprivileged ISA 20191213,
+/// sections 2.2 and 2.3; RISC-V "V" 1.0, sections 6 and 10.1).
+#[derive(Clone, Copy, PartialEq, Eq, Debug)]
+pub enum Number {
+    /// No number.
+    Absent,
+    /// A number without sign, from a bit on, of so many bits.
+    Unsigned(u32, u32),
+    /// A signed number, from a bit on, of so many bits.
+    Signed(u32, u32),
+    /// A signed number of 12 bits in the places of format S.
+    FormatS,
+    /// A signed even number of 13 bits in the places of format B.
+    FormatB,
+    /// A signed even number of 21 bits in the places of format J.
+    FormatJ,
+}
+
+/// Bits 31 to 29 of a vector load or store: one less than its number of fields or of whole registers.
+#[derive(Clone, Copy, PartialEq, Eq, Debug)]
+pub enum Nf {
+    /// No such field.
+    Absent,
+    /// Any number of fields from 1 to 8.
+    Any,
+    /// 1, 2, 4 or 8 registers: a row each.
+    Registers,
+}
+
+/// What stands in the words of a shape beside their fixed bits.
+#[derive(Clone, Copy, PartialEq, Eq, Debug)]
+pub struct Layout {
+    /// Bits 11 to 7 are `rd`, `vd` or `vs3`.
+    pub rd: bool,
+    /// Bits 19 to 15 are `rs1` or `vs1`, or a number that stands for a register.
+    pub rs1: bool,
+    /// Bits 24 to 20 are `rs2` or `vs2`.
+    pub rs2: bool,
+    pub number: Number,
+    /// Bit 25 of a vector row; a scalar row counts as one without a mask.
+    pub vm: Vm,
+    pub nf: Nf,
 }
 
 /// Which addresses a vector load or store accesses (RISC-V "V" 1.0, sections 7.2 and 7.4 to 7.9).
