@@ -9,9 +9,11 @@ mod encoder;
 mod field;
 mod immediate;
 mod instr;
+mod memory;
 mod operation;
 #[cfg(test)]
 mod tests;
+mod vector;
 
 pub use decoder::decode;
 pub use encoder::encode;
