@@ -1,5 +1,5 @@
 -- How the row of a word is found by some of its fixed bits.
-use Rattle.std.proofs.Common.{◌≡◌, ℕ, zero, suc, ◌<◌, ◌^◌, Bool, true, false, cond, ◌==◌, ◌&&◌, ◌||◌, List, [], ◌∷◌, map, flat_map, ◌++◌, Option, Some, None, option_map, find, filter, slice_get, refl, sym, ap, subst, ◌∙◌, bit_and, arith}
+use Rattle.std.proofs.Common.{◌≡◌, ℕ, zero, suc, ◌<◌, ◌^◌, ◌⊎◌, inl, inr, Bool, true, false, cond, ◌==◌, ◌&&◌, ◌||◌, List, [], ◌∷◌, map, flat_map, ◌++◌, Option, Some, None, option_map, find, filter, slice_get, refl, sym, ap, subst, ◌∙◌, bit_and, arith}
 use Rattle.std.proofs.lemmas.Bool.{eqb-true, eq-eqb, and_parts, false≢true}
 use Rattle.std.proofs.Math.Nat.{mod-eq_of_lt}
 use Rattle.std.proofs.lemmas.Nat.{and_assoc, and_comm, and_mask}
@@ -9,6 +9,8 @@ use Rattle.vx_decode.specs.Lookup.{operation_of, may_fit, rows_among, operation_
 use Rattle.vx_rows.specs.Layouts.{layout_of, row_nfs}
 use Rattle.vx_rows.specs.Table.{row_with, rows_of, shape_of, table, operations, has_bits_of, row_of, FitsOneAtMost}
 use Rattle.vx_rows.specs.declared.op.Op.{Op}
+use Rattle.vx_rows.specs.declared.row.Nf.{Nf}
+use Rattle.vx_rows.specs.declared.row.Nf.TheVariants.{Absent, Any, Registers}
 use Rattle.vx_rows.specs.declared.row.Row.{Row}
 
 -- ---- searches of a list
@@ -242,34 +244,65 @@ shaped : (word : ℕ) (o : Option Row) → ((r : Row) → o ≡ Some r → r.sha
 shaped word None has = refl
 shaped word (Some r) has = ap (λ shape. Some (with_operands word r.op (layout_of shape))) (has r refl)
 
-abbrev has_shape : List Row → Type 0
-has_shape rows = (r : Row) (k : ℕ) → slice_get rows k ≡ Some r → r.shape ≡ shape_of r.op
+-- each row of a list has a property
+abbrev pub Each : (Row → Type 0) → List Row → Type 0
+Each P rows = (r : Row) (k : ℕ) → slice_get rows k ≡ Some r → P r
 
-shape-cons : (s : Row) (rows : List Row) → s.shape ≡ shape_of s.op → has_shape rows → has_shape (s ∷ rows)
-shape-cons s rows here rest r zero at =
+each-cons : (P : Row → Type 0) (s : Row) (rows : List Row) → P s → Each P rows → Each P (s ∷ rows)
+each-cons P s rows here rest r zero at =
     let same : s ≡ r = cc in
-    subst (λ (t : Row). t.shape ≡ shape_of t.op) same here
-shape-cons s rows here rest r (suc k) at = rest r k at
+    subst P same here
+each-cons P s rows here rest r (suc k) at = rest r k at
 
-shape-append : (xs ys : List Row) → has_shape xs → has_shape ys → has_shape (xs ++ ys)
-shape-append [] ys of_xs of_ys r k at = of_ys r k at
-shape-append (s ∷ xs) ys of_xs of_ys r k at = shape-cons s (xs ++ ys) (of_xs s 0 refl) (shape-append xs ys (λ r k at. of_xs r (suc k) at) of_ys) r k at
+each-append : (P : Row → Type 0) (xs ys : List Row) → Each P xs → Each P ys → Each P (xs ++ ys)
+each-append P [] ys of_xs of_ys r k at = of_ys r k at
+each-append P (s ∷ xs) ys of_xs of_ys r k at = each-cons P s (xs ++ ys) (of_xs s 0 refl) (each-append P xs ys (λ r k at. of_xs r (suc k) at) of_ys) r k at
 
-shape-rows_of : (op : Op) (nfs : List ℕ) → has_shape (map (row_with op) nfs)
-shape-rows_of op [] r k at = cc
-shape-rows_of op (nf ∷ nfs) r k at = shape-cons (row_with op nf) (map (row_with op) nfs) refl (shape-rows_of op nfs) r k at
+-- a field nf with which there is a row
+abbrev pub IsRowNf : Nf → ℕ → Type 0
+IsRowNf Absent n = n ≡ 0
+IsRowNf Any n = n ≡ 0
+IsRowNf Registers n = (n ≡ 0) ⊎ (n ≡ 1) ⊎ (n ≡ 3) ⊎ (n ≡ 7)
 
-shape-table : (ops : List Op) → has_shape (flat_map rows_of ops)
-shape-table [] r k at = cc
-shape-table (op ∷ ops) r k at = shape-append (rows_of op) (flat_map rows_of ops) (shape-rows_of op (row_nfs (layout_of (shape_of op)).nf)) (shape-table ops) r k at
+each-nf : (P : Row → Type 0) (op : Op) (k : Nf) → ((nf : ℕ) → IsRowNf k nf → P (row_with op nf)) → Each P (map (row_with op) (row_nfs k))
+each-nf P op Absent each r k at = each-cons P (row_with op 0) [] (each 0 refl) (λ r k at. cc) r k at
+each-nf P op Any each r k at = each-cons P (row_with op 0) [] (each 0 refl) (λ r k at. cc) r k at
+each-nf P op Registers each r k at =
+    each-cons P (row_with op 0) (map (row_with op) (1 ∷ 3 ∷ 7 ∷ [])) (each 0 (inl refl))
+      (each-cons P (row_with op 1) (map (row_with op) (3 ∷ 7 ∷ [])) (each 1 (inr (inl refl)))
+        (each-cons P (row_with op 3) (map (row_with op) (7 ∷ [])) (each 3 (inr (inr (inl refl))))
+          (each-cons P (row_with op 7) [] (each 7 (inr (inr (inr refl)))) (λ r k at. cc))))
+      r k at
+
+each-op : (P : Row → Type 0) → ((op : Op) (nf : ℕ) → IsRowNf (layout_of (shape_of op)).nf nf → P (row_with op nf)) → (ops : List Op) → Each P (flat_map rows_of ops)
+each-op P each [] r k at = cc
+each-op P each (op ∷ ops) r k at =
+    each-append P (rows_of op) (flat_map rows_of ops) (each-nf P op (layout_of (shape_of op)).nf (each op)) (each-op P each ops) r k at
+
+-- each row of the table is one of its operation's
+pub record IsRow (r : Row) : Type 0 where
+  pub nf : ℕ
+  pub is_nf : IsRowNf (layout_of (shape_of r.op)).nf nf
+  pub is : r ≡ row_with r.op nf
+
+pub are_rows : Each IsRow table
+are_rows = each-op IsRow (λ op nf is. record { nf = nf; is_nf = is; is = refl }) operations
+
+-- the row that a word means is one of its operation's, and has the word's bits
+pub record Means (word : ℕ) (r : Row) : Type 0 where
+  pub row : IsRow r
+  pub has : has_bits_of word r ≡ true
+
+pub means : (word : ℕ) (r : Row) → row_of word ≡ Some r → Means word r
+means word r found =
+    let i = find-at (has_bits_of word) table r found in
+    record { row = are_rows r i.place i.at; has = i.passes }
 
 -- the instruction of a word with this operation
 pub decoded-operation : (word : ℕ) (op : Op) → Some op ≡ operation_of word → Some (with_operands word op (layout_of (shape_of op))) ≡ decoded word
 decoded-operation word op is =
     ap (option_map (λ op. with_operands word op (layout_of (shape_of op)))) is
-    ∙ sym (shaped word (row_of word) (λ r found.
-        let i = find-at (has_bits_of word) table r found in
-        shape-table operations r i.place i.at))
+    ∙ sym (shaped word (row_of word) (λ r found. ap (λ (s : Row). s.shape) (means word r found).row.is))
 
 -- all bits of a word
 pub and_all : (word : ℕ) → word < 2 ^ 32 → bit_and word 0xffffffff ≡ word
