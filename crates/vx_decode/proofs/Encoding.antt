@@ -1,8 +1,9 @@
 -- A word and its instruction.
-use Rattle.std.proofs.Common.{◌≡◌, ℕ, zero, suc, ◌+◌, ◌*◌, ◌^◌, ◌<◌, ◌⊎◌, inl, inr, Bool, true, false, List, [], ◌∷◌, ◌++◌, map, flat_map, find, Option, Some, None, option_map, slice_get, Contains, ap, sym, subst, refl, ◌∙◌, bit_and, arith, lit<}
+use Rattle.std.proofs.Common.{◌≡◌, ℕ, ◌+◌, ◌*◌, ◌^◌, ◌<◌, inl, inr, Bool, true, false, map, Option, Some, None, option_map, Contains, ap, sym, subst, refl, ◌∙◌, bit_and, bit_or, ◌%◌, arith, lit<, lit≤}
 use Rattle.std.proofs.lemmas.Bool.{eqb-true, eq-eqb}
+use Rattle.std.proofs.lemmas.Nat.{shl_whole}
 use Rattle.vx_rows.specs.Layouts.{layout_of, mask_of, row_nfs}
-use Rattle.vx_rows.specs.Table.{bits_of, shape_of, row_with, rows_of, operations, table, has_bits_of, row_of, HasItsRows}
+use Rattle.vx_rows.specs.Table.{bits_of, shape_of, row_with, table, has_bits_of, row_of, HasItsRows}
 use Rattle.vx_rows.specs.declared.op.Op.{Op}
 use Rattle.vx_rows.specs.declared.op.Op.TheVariants.{Scalar, Set, Elem, Widen, Fixed, Mask, Perm, Memory}
 use Rattle.vx_rows.specs.declared.op.ScalarOp.TheVariants.{Lui}
@@ -18,10 +19,10 @@ use Rattle.vx_rows.specs.declared.row.Nf.{Nf}
 use Rattle.vx_rows.specs.declared.row.Nf.TheVariants.{Absent, Any, Registers}
 use Rattle.vx_rows.specs.declared.row.Row.{Row}
 use Rattle.vx_decode.specs.Decoded.{decoded, with_operands}
-use Rattle.vx_decode.specs.Encoded.{HasOperands, IsValid, IsNf, operand_bits_of}
+use Rattle.vx_decode.specs.Encoded.{HasOperands, IsValid, IsNf, IsRegister, number_bits, vm_bits, operand_bits_of}
 use Rattle.vx_decode.specs.declared.instr.Instr.{Instr}
-use Rattle.vx_decode.proofs.Layouts.{Fits, fits, fits-shape, fits-parts, fixed, row_place, row_nf, row_nf-is, word-parts, word-holds, operands-valid}
-use Rattle.vx_decode.proofs.Parts.{within-sum, halves, within-bits_at, and-sum}
+use Rattle.vx_decode.proofs.Layouts.{Fits, fits-shape, fits-parts, fixed, row_place, row_nf, row_nf-is, word-parts, word-holds, word-joined, operands-valid}
+use Rattle.vx_decode.proofs.Parts.{halves, within-bits_at, and-sum}
 use Rattle.vx_decode.proofs.Rows.{IsRowNf, means, and_all}
 
 -- the parts of a word of an operation
@@ -80,7 +81,7 @@ has-row : (op : Op) (nf w : ℕ) → bit_and w (fixed (layout op)) ≡ bits_of o
 has-row op nf w bits own =
     let f = fit op in
     let all : bit_and w (mask_of (shape_of op)) ≡ bits_of op + nf * 2 ^ 29 =
-      ap (bit_and w) f.mask ∙ and-sum w (fixed (layout op)) (row_place (layout op).nf) f.row ∙ ap (λ x. x + bit_and w (row_place (layout op).nf)) bits ∙ ap (λ x. bits_of op + x) own in
+    ap (bit_and w) f.mask ∙ and-sum w (fixed (layout op)) (row_place (layout op).nf) f.row ∙ ap (λ x. x + bit_and w (row_place (layout op).nf)) bits ∙ ap (λ x. bits_of op + x) own in
     eq-eqb _ _ all
 
 -- an operation has a row with such a field nf
@@ -139,3 +140,22 @@ decoded-valid word i e =
     let same : m.op ≡ i.op = ap (λ (j : Instr). j.op) m.is in
     let here : HasOperands (layout m.op) i = subst (HasOperands (layout m.op)) m.is (operands-valid (layout m.op) (fit m.op) m.op word m.nf m.bits.is_nf m.bits.own) in
     subst (λ op. HasOperands (layout op) i) same here
+
+register-below : (has : Bool) (n : ℕ) → IsRegister has n → n < 32
+register-below true n is = is
+register-below false n is = omega arith
+
+nf-below : (k : Nf) (n : ℕ) → IsNf k n → n < 8
+nf-below Absent n is = omega arith
+nf-below Any n is = is
+nf-below Registers n is = registers-below n is
+
+-- what the body of `encode` joins
+pub encoded-joined : (i : Instr) → IsValid i → bit_or (bits_of i.op) (bit_or (bit_or (bit_or (bit_or (bit_or (i.rd * 128 % 4294967296) (i.rs1 * 32768 % 4294967296)) (i.rs2 * 1048576 % 4294967296)) (number_bits (layout i.op).number i.imm)) (vm_bits (layout i.op).vm i.vm)) (i.nf * 536870912 % 4294967296)) ≡ bits_of i.op + operand_bits_of (layout i.op) i
+encoded-joined i valid =
+    let l = layout i.op in
+    let rd : i.rd * 128 % 4294967296 ≡ i.rd * 128 = shl_whole i.rd 5 7 32 (register-below l.rd i.rd valid.rd) (lit≤ tt) in
+    let rs1 : i.rs1 * 32768 % 4294967296 ≡ i.rs1 * 32768 = shl_whole i.rs1 5 15 32 (register-below l.rs1 i.rs1 valid.rs1) (lit≤ tt) in
+    let rs2 : i.rs2 * 1048576 % 4294967296 ≡ i.rs2 * 1048576 = shl_whole i.rs2 5 20 32 (register-below l.rs2 i.rs2 valid.rs2) (lit≤ tt) in
+    let nf : i.nf * 536870912 % 4294967296 ≡ i.nf * 536870912 = shl_whole i.nf 3 29 32 (nf-below l.nf i.nf valid.nf) (lit≤ tt) in
+    rw (rd, rs1, rs2, nf) (word-joined l (fit i.op) i valid (bits_of i.op) (bits-fixed i.op))

@@ -1,9 +1,10 @@
 -- The parts of a word in each layout: the fixed bits, and the operands.
-use Rattle.std.proofs.Common.{◌≡◌, ℕ, ◌+◌, ◌-◌, ◌*◌, ◌^◌, ◌<◌, zero, suc, ℤ, pos, Bool, true, false, ◌==◌, ◌&&◌, if◌then◌else◌, ap, sym, subst, refl, ◌∙◌, bit_and, arith}
+use Rattle.std.proofs.Common.{◌≡◌, ℕ, ◌+◌, ◌-◌, ◌*◌, ◌^◌, ◌<◌, zero, suc, ℤ, Bool, true, false, ◌==◌, ◌&&◌, if◌then◌else◌, ap, sym, subst, refl, ◌∙◌, bit_and, bit_or, arith}
 use Rattle.std.proofs.lemmas.Bool.{eqb-true, and_parts}
+use Rattle.std.proofs.lemmas.Nat.{or_disjoint}
 use Rattle.std.specs.Int.Bits.{and_zero_r}
 use Rattle.vx_base.specs.Numbers.{field}
-use Rattle.vx_rows.specs.Layouts.{layout_of, bits_at, rd_mask, rs1_mask, rs2_mask, number_mask, vm_mask, nf_mask, operands_mask, mask_of}
+use Rattle.vx_rows.specs.Layouts.{layout_of, bits_at, rd_mask, rs1_mask, rs2_mask, number_mask, vm_mask, operands_mask}
 use Rattle.vx_rows.specs.declared.op.Op.{Op}
 use Rattle.vx_rows.specs.declared.row.First.{First}
 use Rattle.vx_rows.specs.declared.row.First.TheVariants as first
@@ -22,7 +23,7 @@ use Rattle.vx_decode.specs.declared.instr.Instr.{Instr}
 use Rattle.vx_decode.proofs.Fields.{field-below}
 use Rattle.vx_decode.proofs.Numbers.{in_word, number-parts, number-valid, number-same, number-within}
 use Rattle.vx_decode.proofs.Rows.{IsRowNf}
-use Rattle.vx_decode.proofs.Parts.{and-sum, within-sum, halves, and-bits_at, within-bits_at, same-at}
+use Rattle.vx_decode.proofs.Parts.{apart-within, and-sum, within-sum, halves, and-bits_at, within-bits_at, same-at}
 
 -- the bits of nf, also where there is a row for each of its values
 abbrev pub nf_place : Nf → ℕ
@@ -181,16 +182,16 @@ nf-parts Registers w = and-bits_at w 29 3
 pub word-parts : (l : Layout) → Fits l → (op : Op) (w : ℕ) → bit_and w 0xffffffff ≡ w → w ≡ bit_and w (fixed l) + operand_bits_of l (with_operands w op l)
 word-parts l f op w whole =
     let to_rs1_is : bit_and w (to_rs1 l) ≡ register_at 7 l.rd w * 2 ^ 7 + register_at 15 l.rs1 w * 2 ^ 15 =
-      and-sum w (rd_mask l) (rs1_mask l) f.rs1 ∙ ap (λ x. x + bit_and w (rs1_mask l)) (register-parts l.rd 7 w) ∙ ap (λ x. register_at 7 l.rd w * 2 ^ 7 + x) (register-parts l.rs1 15 w) in
+    and-sum w (rd_mask l) (rs1_mask l) f.rs1 ∙ ap (λ x. x + bit_and w (rs1_mask l)) (register-parts l.rd 7 w) ∙ ap (λ x. register_at 7 l.rd w * 2 ^ 7 + x) (register-parts l.rs1 15 w) in
     let to_rs2_is : bit_and w (to_rs2 l) ≡ register_at 7 l.rd w * 2 ^ 7 + register_at 15 l.rs1 w * 2 ^ 15 + register_at 20 l.rs2 w * 2 ^ 20 =
-      and-sum w (to_rs1 l) (rs2_mask l) f.rs2 ∙ ap (λ x. x + bit_and w (rs2_mask l)) to_rs1_is ∙ ap (λ x. register_at 7 l.rd w * 2 ^ 7 + register_at 15 l.rs1 w * 2 ^ 15 + x) (register-parts l.rs2 20 w) in
+    and-sum w (to_rs1 l) (rs2_mask l) f.rs2 ∙ ap (λ x. x + bit_and w (rs2_mask l)) to_rs1_is ∙ ap (λ x. register_at 7 l.rd w * 2 ^ 7 + register_at 15 l.rs1 w * 2 ^ 15 + x) (register-parts l.rs2 20 w) in
     let registers = register_at 7 l.rd w * 2 ^ 7 + register_at 15 l.rs1 w * 2 ^ 15 + register_at 20 l.rs2 w * 2 ^ 20 in
     let to_number_is : bit_and w (to_number l) ≡ registers + number_bits l.number (number_of l.number w) =
-      and-sum w (to_rs2 l) (number_mask l.number) f.number ∙ ap (λ x. x + bit_and w (number_mask l.number)) to_rs2_is ∙ ap (λ x. registers + x) (number-parts l.number f.in_word w) in
+    and-sum w (to_rs2 l) (number_mask l.number) f.number ∙ ap (λ x. x + bit_and w (number_mask l.number)) to_rs2_is ∙ ap (λ x. registers + x) (number-parts l.number f.in_word w) in
     let to_vm_is : bit_and w (to_vm l) ≡ registers + number_bits l.number (number_of l.number w) + vm_bits l.vm (vm_of l.vm w) =
-      and-sum w (to_number l) (vm_mask l.vm) f.vm ∙ ap (λ x. x + bit_and w (vm_mask l.vm)) to_number_is ∙ ap (λ x. registers + number_bits l.number (number_of l.number w) + x) (vm-parts l.vm w) in
+    and-sum w (to_number l) (vm_mask l.vm) f.vm ∙ ap (λ x. x + bit_and w (vm_mask l.vm)) to_number_is ∙ ap (λ x. registers + number_bits l.number (number_of l.number w) + x) (vm-parts l.vm w) in
     let places_are : bit_and w (places l) ≡ operand_bits_of l (with_operands w op l) =
-      and-sum w (to_vm l) (nf_place l.nf) f.nf ∙ ap (λ x. x + bit_and w (nf_place l.nf)) to_vm_is ∙ ap (λ x. registers + number_bits l.number (number_of l.number w) + vm_bits l.vm (vm_of l.vm w) + x) (nf-parts l.nf w) in
+    and-sum w (to_vm l) (nf_place l.nf) f.nf ∙ ap (λ x. x + bit_and w (nf_place l.nf)) to_vm_is ∙ ap (λ x. registers + number_bits l.number (number_of l.number w) + vm_bits l.vm (vm_of l.vm w) + x) (nf-parts l.nf w) in
     sym whole ∙ ap (bit_and w) (sym f.all) ∙ and-sum w (fixed l) (places l) f.apart ∙ ap (λ x. bit_and w (fixed l) + x) places_are
 
 register-valid : (has : Bool) (low w : ℕ) → IsRegister has (register_at low has w)
@@ -293,6 +294,40 @@ pub record Holds (l : Layout) (i : Instr) (bits w : ℕ) : Type 0 where
   pub row : bit_and w (row_place l.nf) ≡ row_nf l.nf i.nf * 2 ^ 29
   pub operands : with_operands w i.op l ≡ i
 
+-- the operands' bits joined by `|`
+abbrev pub operands_or : Layout → Instr → ℕ
+operands_or l i =
+    bit_or (bit_or (bit_or (bit_or (bit_or (i.rd * 2 ^ 7) (i.rs1 * 2 ^ 15)) (i.rs2 * 2 ^ 20)) (number_bits l.number i.imm)) (vm_bits l.vm i.vm)) (i.nf * 2 ^ 29)
+
+or_sum : (x y z m n : ℕ) → bit_and x m ≡ x → bit_and y n ≡ y → bit_and m n ≡ 0 → z ≡ x → bit_or z y ≡ x + y
+or_sum x y z m n in_x in_y apart same = ap (λ u. bit_or u y) same ∙ or_disjoint x y (apart-within x y m n in_x in_y apart)
+
+pub word-joined : (l : Layout) → Fits l → (i : Instr) → HasOperands l i → (bits : ℕ) → bit_and bits (fixed l) ≡ bits → bit_or bits (operands_or l i) ≡ bits + operand_bits_of l i
+word-joined l f i h bits under =
+    let rd = i.rd * 2 ^ 7 in
+    let rs1 = i.rs1 * 2 ^ 15 in
+    let rs2 = i.rs2 * 2 ^ 20 in
+    let number = number_bits l.number i.imm in
+    let vm = vm_bits l.vm i.vm in
+    let nf = i.nf * 2 ^ 29 in
+    let in_rd = register-within l.rd 7 i.rd h.rd in
+    let in_rs1 = register-within l.rs1 15 i.rs1 h.rs1 in
+    let in_rs2 = register-within l.rs2 20 i.rs2 h.rs2 in
+    let in_number = number-within l.number i.imm in
+    let in_vm = vm-within l.vm i.vm in
+    let in_nf = nf-within l.nf i.nf h.nf in
+    let sum_rs1 = within-sum rd rs1 (rd_mask l) (rs1_mask l) in_rd in_rs1 f.rs1 in
+    let sum_rs2 = within-sum (rd + rs1) rs2 (to_rs1 l) (rs2_mask l) sum_rs1 in_rs2 f.rs2 in
+    let sum_number = within-sum (rd + rs1 + rs2) number (to_rs2 l) (number_mask l.number) sum_rs2 in_number f.number in
+    let sum_vm = within-sum (rd + rs1 + rs2 + number) vm (to_number l) (vm_mask l.vm) sum_number in_vm f.vm in
+    let sum_nf = within-sum (rd + rs1 + rs2 + number + vm) nf (to_vm l) (nf_place l.nf) sum_vm in_nf f.nf in
+    let or_rs1 = or_sum rd rs1 rd (rd_mask l) (rs1_mask l) in_rd in_rs1 f.rs1 refl in
+    let or_rs2 = or_sum (rd + rs1) rs2 _ (to_rs1 l) (rs2_mask l) sum_rs1 in_rs2 f.rs2 or_rs1 in
+    let or_number = or_sum (rd + rs1 + rs2) number _ (to_rs2 l) (number_mask l.number) sum_rs2 in_number f.number or_rs2 in
+    let or_vm = or_sum (rd + rs1 + rs2 + number) vm _ (to_number l) (vm_mask l.vm) sum_number in_vm f.vm or_number in
+    let or_nf = or_sum (rd + rs1 + rs2 + number + vm) nf _ (to_vm l) (nf_place l.nf) sum_vm in_nf f.nf or_vm in
+    ap (bit_or bits) or_nf ∙ or_disjoint bits (operand_bits_of l i) (apart-within bits (operand_bits_of l i) (fixed l) (places l) under sum_nf f.apart)
+
 pub word-holds : (l : Layout) → Fits l → (i : Instr) → HasOperands l i → (bits : ℕ) → bit_and bits (fixed l) ≡ bits → Holds l i bits (bits + operand_bits_of l i)
 word-holds l f i h bits under =
     let rd = i.rd * 2 ^ 7 in
@@ -321,7 +356,7 @@ word-holds l f i h bits under =
     let at_rs2 = halves w (rd + rs1) rs2 (to_rs1 l) (rs2_mask l) sum_rs1 in_rs2 f.rs2 at_number.low in
     let at_rs1 = halves w rd rs1 (rd_mask l) (rs1_mask l) in_rd in_rs1 f.rs1 at_rs2.low in
     let number_is : number_of l.number w ≡ i.imm =
-      number-same l.number f.in_word _ _ (number-valid l.number f.in_word w) h.imm (sym (number-parts l.number f.in_word w) ∙ at_number.high) in
+    number-same l.number f.in_word _ _ (number-valid l.number f.in_word w) h.imm (sym (number-parts l.number f.in_word w) ∙ at_number.high) in
     record {
       fixed = at_all.low;
       row = row-part l.nf i.nf w at_nf.high;

@@ -1,14 +1,13 @@
 -- The number of a word and the bits of a number, in each of the ways in which a number stands in a word.
-use Rattle.std.proofs.Common.{◌≡◌, ℕ, zero, suc, ◌+◌, ◌-◌, ◌*◌, ◌/◌, ◌%◌, ◌^◌, ◌<◌, ◌≤◌, Bool, true, false, ◌&&◌, nat_lt, ap, sym, subst, refl, ◌∙◌, bit_and, arith, ℤ, pos, neg_ℤ, lit<}
-use Rattle.std.proofs.lemmas.Bool.{and_parts, false≢true}
-use Rattle.std.proofs.lemmas.Bool.Decides.{nat_tests}
+use Rattle.std.proofs.Common.{◌≡◌, ℕ, zero, suc, ◌+◌, ◌-◌, ◌*◌, ◌/◌, ◌%◌, ◌^◌, ◌<◌, Bool, true, ◌&&◌, nat_lt, ap, sym, refl, ◌∙◌, bit_and, arith, ℤ, pos, neg_ℤ, lit<}
+use Rattle.std.proofs.lemmas.Bool.{and_parts}
 use Rattle.std.proofs.lemmas.Int.{ints}
 use Rattle.std.proofs.lemmas.Nat.{mod-pow-add, pow_pos}
 use Rattle.std.proofs.Math.Nat.{mod-eq_of_lt, div-div-eq-div-mul, pow-succ'}
 use borrow.Author.Tests.{ltb-true}
-use Rattle.std.specs.Prelude.{◌≤ℤ◌, ◌<ℤ◌, int_rem}
+use Rattle.std.specs.Prelude.{◌≤ℤ◌, ◌<ℤ◌}
 use Rattle.std.specs.Int.Bits.{and_zero_r}
-use Rattle.vx_base.specs.Numbers.{field, signed, reduced}
+use Rattle.vx_base.specs.Numbers.{field, reduced}
 use Rattle.vx_rows.specs.Layouts.{bits_at, number_mask}
 use Rattle.vx_rows.specs.declared.row.Number.{Number}
 use Rattle.vx_rows.specs.declared.row.Number.TheVariants.{Absent, Unsigned, Signed, FormatS, FormatB, FormatJ}
@@ -17,7 +16,6 @@ use Rattle.vx_decode.specs.Encoded.{IsNumber, number_bits, bits_s, bits_b, bits_
 use Rattle.vx_decode.proofs.Fields.{field-at, field-below, low-below}
 use Rattle.vx_decode.proofs.Parts.{and-bits_at, within-bits_at, and-sum, within-sum, same-at}
 use Rattle.vx_decode.proofs.Signed.{signed-reduced, reduced-signed, reduced-even, reduced-unsigned, reduced-below, signed-in_range, signed-even, signed_by, reduced_by}
-
 
 -- half of a power of 2
 half : (count : ℕ) → 0 < count → 2 ^ count ≡ 2 * 2 ^ (count - 1)
@@ -221,10 +219,10 @@ number-same FormatS within y z is_y is_z e =
     signed_same 2048 4096 refl y z is_y.0 is_y.1 is_z.0 is_z.1 (same_s _ _ (reduced-below 4096 y (lit< tt)) (reduced-below 4096 z (lit< tt)) e)
 number-same FormatB within y z is_y is_z e =
     signed_same 4096 8192 refl y z is_y.0.0 is_y.0.1 is_z.0.0 is_z.0.1
-      (same_b _ _ (reduced-below 8192 y (lit< tt)) (reduced-below 8192 z (lit< tt)) (reduced-even 4096 8192 refl y is_y.0.0 is_y.0.1 is_y.1) (reduced-even 4096 8192 refl z is_z.0.0 is_z.0.1 is_z.1) e)
+    (same_b _ _ (reduced-below 8192 y (lit< tt)) (reduced-below 8192 z (lit< tt)) (reduced-even 4096 8192 refl y is_y.0.0 is_y.0.1 is_y.1) (reduced-even 4096 8192 refl z is_z.0.0 is_z.0.1 is_z.1) e)
 number-same FormatJ within y z is_y is_z e =
     signed_same 1048576 2097152 refl y z is_y.0.0 is_y.0.1 is_z.0.0 is_z.0.1
-      (same_j _ _ (reduced-below 2097152 y (lit< tt)) (reduced-below 2097152 z (lit< tt)) (reduced-even 1048576 2097152 refl y is_y.0.0 is_y.0.1 is_y.1) (reduced-even 1048576 2097152 refl z is_z.0.0 is_z.0.1 is_z.1) e)
+    (same_j _ _ (reduced-below 2097152 y (lit< tt)) (reduced-below 2097152 z (lit< tt)) (reduced-even 1048576 2097152 refl y is_y.0.0 is_y.0.1 is_y.1) (reduced-even 1048576 2097152 refl z is_z.0.0 is_z.0.1 is_z.1) e)
 
 -- ---- the bits of a number lie in their places
 

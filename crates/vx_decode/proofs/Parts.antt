@@ -1,6 +1,6 @@
 -- Numbers put together of parts that share no bit.
-use Rattle.std.proofs.Common.{◌≡◌, ℕ, ◌+◌, ◌-◌, ◌*◌, ◌/◌, ◌%◌, ◌^◌, ◌<◌, ◌≤◌, min, max, ap, sym, refl, ◌∙◌, bit_and, bit_or, add-zero, add_comm, arith}
-use Rattle.std.proofs.lemmas.Nat.{or_disjoint, and_assoc, and_comm, and_block, and_mask, shr_split, mod-pow-add, mod_below, pow_pos}
+use Rattle.std.proofs.Common.{◌≡◌, ℕ, ◌+◌, ◌-◌, ◌*◌, ◌/◌, ◌%◌, ◌^◌, ◌<◌, min, max, ap, sym, refl, ◌∙◌, bit_and, bit_or, add-zero, add_comm, arith}
+use Rattle.std.proofs.lemmas.Nat.{or_disjoint, and_assoc, and_comm, and_block, and_mask, shr_split, pow_pos}
 use Rattle.std.proofs.lemmas.Nat.Bits.{same_from_bits, bit_at_and, bit_at_or}
 use Rattle.std.proofs.lemmas.Nat.{shl-shr}
 use Rattle.std.proofs.Math.Nat.{mod-eq_of_lt}

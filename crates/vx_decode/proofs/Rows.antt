@@ -179,7 +179,6 @@ fails-choice word k bits mask r others j true e at none any has rest = fails-in 
 fails-choice word k bits mask r others j false e at none any has rest = rest any
 
 fails : (word k bits : ℕ) (masks : List ℕ) (r : Row) (j : ℕ) → slice_get (filter (may_fit k bits) table) j ≡ Some r → IsNone word k bits masks → list_any (λ m. r.mask == m) masks ≡ true → has_bits_of word r ≡ true → ⊥
-
 fails word k bits [] r j at none any has = false≢true any
 fails word k bits (mask ∷ masks) r j at none any has =
     fails-choice word k bits mask r (list_any (λ m. r.mask == m) masks) j (r.mask == mask) refl at none.0 any has (λ others. fails word k bits masks r j at none.1 others has)
@@ -208,9 +207,9 @@ pub operation_of-last : (word k bits : ℕ) (masks : List ℕ) (last : ℕ) → 
 operation_of-last word k bits masks last known none all =
     let rows = filter (may_fit k bits) table in
     ap (option_map (λ (r : Row). r.op))
-      (find-same_mask word last rows
-       ∙ sym (find-may_fit word k bits table known
-              ∙ find-filter-at (has_bits_of word) (λ (r : Row). r.mask == last) rows (λ r j at has. last-keeps word k bits masks last r j at none (list_all-at (λ (r : Row). list_any (λ m. r.mask == m) (last ∷ masks)) rows r j all at) has)))
+    (find-same_mask word last rows
+    ∙ sym (find-may_fit word k bits table known
+    ∙ find-filter-at (has_bits_of word) (λ (r : Row). r.mask == last) rows (λ r j at has. last-keeps word k bits masks last r j at none (list_all-at (λ (r : Row). list_any (λ m. r.mask == m) (last ∷ masks)) rows r j all at) has)))
 
 -- ---- words with no row
 
@@ -269,10 +268,10 @@ each-nf P op Absent each r k at = each-cons P (row_with op 0) [] (each 0 refl) (
 each-nf P op Any each r k at = each-cons P (row_with op 0) [] (each 0 refl) (λ r k at. cc) r k at
 each-nf P op Registers each r k at =
     each-cons P (row_with op 0) (map (row_with op) (1 ∷ 3 ∷ 7 ∷ [])) (each 0 (inl refl))
-      (each-cons P (row_with op 1) (map (row_with op) (3 ∷ 7 ∷ [])) (each 1 (inr (inl refl)))
-        (each-cons P (row_with op 3) (map (row_with op) (7 ∷ [])) (each 3 (inr (inr (inl refl))))
-          (each-cons P (row_with op 7) [] (each 7 (inr (inr (inr refl)))) (λ r k at. cc))))
-      r k at
+    (each-cons P (row_with op 1) (map (row_with op) (3 ∷ 7 ∷ [])) (each 1 (inr (inl refl)))
+    (each-cons P (row_with op 3) (map (row_with op) (7 ∷ [])) (each 3 (inr (inr (inl refl))))
+    (each-cons P (row_with op 7) [] (each 7 (inr (inr (inr refl)))) (λ r k at. cc))))
+    r k at
 
 each-op : (P : Row → Type 0) → ((op : Op) (nf : ℕ) → IsRowNf (layout_of (shape_of op)).nf nf → P (row_with op nf)) → (ops : List Op) → Each P (flat_map rows_of ops)
 each-op P each [] r k at = cc

@@ -18,8 +18,8 @@ pub fn encode(i: &Instr) -> u32
     has_its_rows();
     let shape = i.op.shape();
     let registers = u32::from(i.rd) << 7 | u32::from(i.rs1) << 15 | u32::from(i.rs2) << 20;
-    let mask = mask_bits(shape.layout().vm, i.vm) | u32::from(i.nf) << 29;
-    i.op.bits() | registers | number(shape, i.imm) | mask
+    let unmasked = mask_bits(shape.layout().vm, i.vm);
+    i.op.bits() | (registers | number(shape, i) | unmasked | u32::from(i.nf) << 29)
 }
 
 /// Bit 25, where it isn't fixed.
@@ -33,10 +33,11 @@ fn mask_bits(vm: Vm, is_unmasked: bool) -> u32
 }
 
 /// The bits of the number of an instruction of this shape.
-fn number(shape: Shape, z: i64) -> u32
-    requires { IsNumber (layout_of shape).number z }
-    ensures { result ≡ number_bits (layout_of shape).number z }
+fn number(shape: Shape, i: &Instr) -> u32
+    requires { IsNumber (layout_of shape).number i.now.imm }
+    ensures { result ≡ number_bits (layout_of shape).number i.now.imm }
 {
+    let z = i.imm;
     match shape.layout().number {
         Number::Absent => 0,
         Number::Unsigned(low, count) => reduced_number(count, z) << low,
