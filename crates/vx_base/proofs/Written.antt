@@ -15,7 +15,7 @@ Appends-more (Some t) b c x y p q =
 pub IsWritten-more : (a b c : SinkState) (x y : List ℕ) → IsWritten a b x → IsWritten b c y → IsWritten a c (x ++ y)
 IsWritten-more a b c x y p q = record {
   appends = Appends-more a.bytes b.bytes c.bytes x y p.appends q.appends;
-  faults = omega (arith, p.faults, q.faults);
+  faults = q.faults ∙ p.faults;
 }
 
 -- a part of a text that is written goes on with what a put takes of the rest

@@ -1,6 +1,6 @@
 -- Whole numbers and the numbers of a fixed width, in two's complement, and bytes, least first: RISC-V Unprivileged ISA
 -- 20191213, sections 1.4, 1.5 and 2.1.
-use Rattle.std.specs.Prelude.{ℕ, ◌-◌, ◌/◌, ◌%◌, ◌^◌, if◌then◌else◌, nat_lt, ℤ, pos, negsuc, ◌-ℤ◌, List, [], ◌∷◌, zero, suc, ◌+◌, ◌*◌}
+use Rattle.std.specs.Prelude.{ℕ, ◌-◌, ◌/◌, ◌%◌, ◌^◌, if◌then◌else◌, nat_lt, ℤ, pos, negsuc, List, [], ◌∷◌, zero, suc, ◌+◌, ◌*◌}
 
 -- z reduced to a width: the number below 2 ^ width that differs from z by a multiple of 2 ^ width
 abbrev pub reduced : ℕ → ℤ → ℕ

@@ -13,10 +13,10 @@ pub record SinkState : Type 0 where
 abbrev pub Appends : SinkState → SinkState → List ℕ → Type 0
 Appends before after more = IfSome before.bytes (λ told. after.bytes ≡ Some (told ++ more))
 
--- all of the text was put
+-- all of the text was put, without a fault
 pub record IsWritten (before after : SinkState) (text : List ℕ) : Type 0 where
   pub appends : Appends before after text
-  pub faults : before.faults ≤ after.faults
+  pub faults : after.faults ≡ before.faults
 
 -- a prefix of the text was put
 pub record IsBegun (before after : SinkState) (text : List ℕ) : Type 0 where
@@ -25,15 +25,12 @@ pub record IsBegun (before after : SinkState) (text : List ℕ) : Type 0 where
   pub appends : Appends before after (take count text)
   pub faults : before.faults ≤ after.faults
 
--- a fault came, and a prefix of the text was put
+-- a prefix of the text was put, and a fault came
 pub record IsCutOff (before after : SinkState) (text : List ℕ) : Type 0 where
-  pub count : ℕ
-  pub within : count ≤ length text
-  pub appends : Appends before after (take count text)
-  pub faults : before.faults ≤ after.faults
+  pub begun : IsBegun before after text
   pub cause : Rises before.faults after.faults
 
--- the first n bytes of the piece were put, at least one
+-- the first n bytes of the piece were put, at least one, without a fault
 pub record PutsFront (before after : SinkState) (piece : List ℕ) (n : ℕ) : Type 0 where
   pub some : 0 < n
   pub within : n ≤ length piece

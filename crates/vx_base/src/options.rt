@@ -14,7 +14,7 @@ pub struct Options {
     pub bank_time: u32,
     /// Instructions in flight: 1 to 8.
     pub window: u32,
-    /// Cycles of a process's turn: 1 to 2^32.
+    /// Cycles of a slice, after which another process may go on: 1 to 2^32.
     pub slice: u64,
     /// Frames of 4,096 bytes of physical memory: 16 to 16,384.
     pub frames: u32,

@@ -28,21 +28,21 @@ Appends-none (Some t) = ap Some (sym (append-nil t))
 
 -- nothing of the text
 pub IsBefore-start : (a : SinkState) (text : List ℕ) → IsBefore a a text text
-IsBefore-start a text = record { front = []; joined = refl; written = record { appends = Appends-none a.bytes; faults = omega arith } }
+IsBefore-start a text = record { front = []; joined = refl; written = record { appends = Appends-none a.bytes; faults = refl } }
 
 -- a piece more
 pub IsBefore-more : (a b c : SinkState) (text piece rest : List ℕ) → IsBefore a b text (piece ++ rest) → IsWritten b c piece → IsBefore a c text rest
 IsBefore-more a b c text piece rest p q = record {
   front = p.front ++ piece;
   joined = append_assoc p.front piece rest ∙ p.joined;
-  written = record { appends = Appends-more a.bytes b.bytes c.bytes p.front piece p.written.appends q.appends; faults = omega (arith, p.written.faults, q.faults) };
+  written = record { appends = Appends-more a.bytes b.bytes c.bytes p.front piece p.written.appends q.appends; faults = q.faults ∙ p.written.faults };
 }
 
 -- the last piece
 pub IsBefore-all : (a b c : SinkState) (text rest : List ℕ) → IsBefore a b text rest → IsWritten b c rest → IsWritten a c text
 IsBefore-all a b c text rest p q = rw (← p.joined) (record {
   appends = Appends-more a.bytes b.bytes c.bytes p.front rest p.written.appends q.appends;
-  faults = omega (arith, p.written.faults, q.faults);
+  faults = q.faults ∙ p.written.faults;
 })
 
 -- the front of a text is that of the texts that it consists of
@@ -63,23 +63,17 @@ IsBefore-begun a b c text piece rest p q = record {
   faults = omega (arith, p.written.faults, q.faults);
 }
 
-IsBegun-cut : (a c : SinkState) (text : List ℕ) → IsBegun a c text → Rises a.faults c.faults → IsCutOff a c text
-IsBegun-cut a c text p cause = record { count = p.count; within = p.within; appends = p.appends; faults = p.faults; cause = cause }
-
-Rises-later : (a b c : ℕ) → a ≤ b → Rises b c → Rises a c
-Rises-later a b c h (inl r) = inl (omega (arith, h, r))
-Rises-later a b c h (inr e) = inr e
-
 -- a stop in a piece is one in the text
 pub IsBefore-stop : (a b c : SinkState) (text piece rest : List ℕ) (fault : ListingFault) → IsBefore a b text (piece ++ rest) → Stops b c piece fault → Stops a c text fault
-IsBefore-stop a b c text piece rest Write p q =
-    let begun : IsBegun b c piece = record { count = q.count; within = q.within; appends = q.appends; faults = q.faults } in
-    IsBegun-cut a c text (IsBefore-begun a b c text piece rest p begun) (Rises-later a.faults b.faults c.faults p.written.faults q.cause)
-IsBefore-stop a b c text piece rest NoMemory p q = IsBefore-begun a b c text piece rest p q
+IsBefore-stop a b c text piece rest Write p q = record {
+  begun = IsBefore-begun a b c text piece rest p q.begun;
+  cause = subst (λ (n : ℕ). Rises n c.faults) p.written.faults q.cause;
+}
+IsBefore-stop a b c text piece rest NoMemory p q = (IsBefore-begun a b c text piece rest p q.0, q.1 ∙ p.written.faults)
 
 -- nothing was put
-pub begun_with_nothing : (a : SinkState) (text : List ℕ) → IsBegun a a text
-begun_with_nothing a text = record { count = 0; within = omega arith; appends = Appends-none a.bytes; faults = omega arith }
+pub begun_with_nothing : (a : SinkState) (text : List ℕ) → IsBegun a a text × (a.faults ≡ a.faults)
+begun_with_nothing a text = (record { count = 0; within = omega arith; appends = Appends-none a.bytes; faults = omega arith }, refl)
 
 -- the same of an answer that has the stop
 pub IsBefore-stopped : (a b c : SinkState) (text piece rest : List ℕ) (answer : Result (Unit {0}) ListingFault) → IsBefore a b text (piece ++ rest) → IfErr answer (Stops b c piece) → IfErr answer (Stops a c text)

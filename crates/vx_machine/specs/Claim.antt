@@ -120,11 +120,12 @@ pub record HasWriteFault (words : List (List ℕ)) (before after : Devices) : Ty
   pub out : IsCutOff before.out after.out text
   pub note : IsNoted before.note after.note write_failed
 
--- a prefix of the listing was written
+-- a prefix of the listing was written, without a fault
 pub record HasBegun (words : List (List ℕ)) (before after : Devices) : Type 0 where
   pub text : List ℕ
   pub job : HasListed words before after Done text
   pub out : IsBegun before.out after.out text
+  pub faults : after.out.faults ≡ before.out.faults
 
 -- memory was wanting: at most the words' file was asked for, and nothing was put on `out`, or a prefix of a listing
 pub record HasNoMemory (words : List (List ℕ)) (before after : Devices) : Type 0 where

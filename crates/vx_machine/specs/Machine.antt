@@ -14,7 +14,7 @@ use Rattle.vx_times.specs.declared.pause.Pause.TheVariants.{Slice, Service, Over
 use Rattle.vx_words.specs.Words.{OptionName, Given, given_number}
 use Rattle.vx_words.specs.Words.OptionName.{Window, Lanes, Budget}
 
--- the machine that a run is told for, the cycles of a turn, and the cycles after which the run ends
+-- the machine that a run is told for, the cycles of a slice, and the cycles after which the run ends
 pub record Settings : Type 0 where
   pub organisation : Organisation
   pub slice : ℕ
@@ -44,14 +44,14 @@ pub record Machine : Type 0 where
   -- the cycles that the process took
   pub cycles : ℕ
   pub clock : ℕ
-  -- the cycle at which the process's turn ends, while it has one
-  pub turn_end : Option ℕ
-  -- the process has had a turn
+  -- the cycle at which the process's slice ends, while it has one
+  pub slice_end : Option ℕ
+  -- the process has had a slice
   pub has_run : Bool
 
 -- the machine at boot
 abbrev pub booted_machine : Image → Machine
-booted_machine image = record { process = begun image; cycles = 0; clock = 0; turn_end = None; has_run = false }
+booted_machine image = record { process = begun image; cycles = 0; clock = 0; slice_end = None; has_run = false }
 
 -- how the run stops at a boundary: with the process ended, or else with the clock at the budget
 abbrev pub stop_of : Settings → Machine → Option Stop
@@ -60,15 +60,15 @@ stop_of settings m = elim (m.process.over) [
   | None ↦ if nat_le settings.budget m.clock then Some Spent else None
 ]
 
--- the process is given a turn from a cycle on
-abbrev pub given_turn : Settings → Machine → ℕ → Machine
-given_turn settings m clock = record m { clock = clock; turn_end = Some (clock + settings.slice); has_run = true }
+-- the process is given a slice from a cycle on
+abbrev pub given_slice : Settings → Machine → ℕ → Machine
+given_slice settings m clock = record m { clock = clock; slice_end = Some (clock + settings.slice); has_run = true }
 
--- the process goes on in its turn, or is given one; the first costs a switch
+-- the process goes on in its slice, or is given one; the first costs a switch
 abbrev pub taken : Settings → Machine → Machine
-taken settings m = elim (m.turn_end) [
+taken settings m = elim (m.slice_end) [
   | Some end ↦ m
-  | None ↦ given_turn settings m (m.clock + (if m.has_run then 0 else switch_cycles))
+  | None ↦ given_slice settings m (m.clock + (if m.has_run then 0 else switch_cycles))
 ]
 
 -- how many aligned words of 8 bytes hold so many bytes from an address on
@@ -87,9 +87,9 @@ passed m process cycles = record m { process = process; cycles = m.cycles + cycl
 abbrev pub served : Machine → Machine
 served m = passed m (stepped m.process) (words_moved m.process.state + service_cycles)
 
--- the machine once an episode ended so: the turn ends with its slice, and a service follows
+-- the machine once an episode ended so: its slice is over, or a service follows
 abbrev pub after_pause : Machine → Pause → Machine
-after_pause m Slice = record m { turn_end = None }
+after_pause m Slice = record m { slice_end = None }
 after_pause m Service = served m
 after_pause m Over = m
 
@@ -101,7 +101,7 @@ after_episode m e = after_pause (passed m e.process (e.clock - m.clock)) e.pause
 abbrev pub round : Settings → Machine → Machine
 round settings m =
     let t = taken settings m in
-    after_episode t (episode settings.organisation t.clock (unwrap_or t.turn_end 0) t.process)
+    after_episode t (episode settings.organisation t.clock (unwrap_or t.slice_end 0) t.process)
 
 -- the next round, where the run hasn't stopped
 abbrev pub next_round : Settings → Machine → Machine

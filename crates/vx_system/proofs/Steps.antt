@@ -38,7 +38,7 @@ pub StepsTo-one : (p q : Process) (from to : ℕ) → q ≡ stepped p → from <
 StepsTo-one p q from to e later = StepsTo-step p p q from from to (StepsTo-none p from) e later
 
 -- the steps of an episode and of the service behind it, after cycles without a step
-pub StepsTo-turn : (p q r s : Process) (a b c d : ℕ) → q ≡ p → a ≤ b → StepsTo q r b c → StepsTo r s c d → StepsTo p s a d
-StepsTo-turn p q r s a b c d same later g h =
+pub StepsTo-round : (p q r s : Process) (a b c d : ℕ) → q ≡ p → a ≤ b → StepsTo q r b c → StepsTo r s c d → StepsTo p s a d
+StepsTo-round p q r s a b c d same later g h =
     let none : StepsTo p q a b = record { steps = 0; stepped = same; counted = omega arith } in
     StepsTo-join p q s a b d none (StepsTo-join q r s b c d g h)

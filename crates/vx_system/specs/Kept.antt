@@ -7,4 +7,4 @@ pub record IsKept (s : Inside) : Type 0 where
   pub window : s.options.window ≡ 1
   pub clock : s.clock ≤ 2 ^ 42
   pub cycles : s.cycles ≤ s.clock
-  pub turn_end : ForSome s.turn_end (λ end. end ≤ 2 ^ 41)
+  pub slice_end : ForSome s.slice_end (λ end. end ≤ 2 ^ 41)

@@ -25,9 +25,9 @@ pub struct System {
     clock: u64,
     /// The process's cycles so far.
     cycles: u64,
-    /// The cycle at which the process's turn ends, while it has one.
-    turn_end: Option<u64>,
-    /// The process has had a turn.
+    /// The cycle at which the process's slice ends, while it has one.
+    slice_end: Option<u64>,
+    /// The process has had a slice.
     has_run: bool,
 }
 
@@ -40,7 +40,7 @@ impl Model for System {
 
     ghost view = { λ s. record {
       settings = settings_of s.options;
-      machine = record { process = s.process; cycles = s.cycles; clock = s.clock; turn_end = s.turn_end; has_run = s.has_run };
+      machine = record { process = s.process; cycles = s.cycles; clock = s.clock; slice_end = s.slice_end; has_run = s.has_run };
     } };
 
     ghost invariant = { IsKept };
@@ -58,7 +58,7 @@ impl System {
             options: *options,
             clock: 0,
             cycles: 0,
-            turn_end: None,
+            slice_end: None,
             has_run: false,
         })
     }
@@ -71,22 +71,22 @@ impl System {
             if self.clock >= self.options.budget {
                 return Stop::Spent;
             }
-            self.turn();
+            self.round();
         }
         Stop::Done
     }
 
-    /// The process goes on in its turn, or is given one; the first costs a switch. Gives the turn's end.
+    /// The process goes on in its slice, or is given one; the first costs a switch. Gives the slice's end.
     fn take(&mut self) -> u64
         requires { self.old.machine.clock < self.old.settings.budget }
         ensures taken { self.new ≡ with_machine self.old (taken self.old.settings self.old.machine) }
-        ensures end { result ≡ unwrap_or self.new.machine.turn_end 0 }
+        ensures end { result ≡ unwrap_or self.new.machine.slice_end 0 }
         ensures process { self.new.machine.process ≡ self.old.machine.process }
         ensures later { self.old.machine.clock ≤ self.new.machine.clock }
         ensures clock { self.new.machine.clock ≤ 2 ^ 41 }
         ensures until { result ≤ 2 ^ 41 }
     {
-        if let Some(end) = self.turn_end {
+        if let Some(end) = self.slice_end {
             return end;
         }
         if !self.has_run {
@@ -94,7 +94,7 @@ impl System {
             self.clock += SWITCH;
         }
         let end = self.clock + self.options.slice;
-        self.turn_end = Some(end);
+        self.slice_end = Some(end);
         end
     }
 
@@ -131,7 +131,7 @@ impl System {
         self.clock += cycles;
     }
 
-    /// What follows an episode that ended so: the turn ends with its slice, and a service is done.
+    /// What follows an episode that ended so: the slice is over, or a service is done.
     fn finish(&mut self, pause: Pause)
         requires service { pause ≡ Pause.Service → IsAsking self.old.machine.process }
         requires clock { self.old.machine.clock ≤ 2 ^ 41 + 128 }
@@ -139,14 +139,14 @@ impl System {
         ensures steps { StepsTo self.old.machine.process self.new.machine.process self.old.machine.clock self.new.machine.clock }
     {
         match pause {
-            Pause::Slice => self.turn_end = None,
+            Pause::Slice => self.slice_end = None,
             Pause::Service => self.serve(),
             Pause::Over => {}
         }
     }
 
     /// A round: an episode, and the service that ends it.
-    fn turn(&mut self)
+    fn round(&mut self)
         requires running { self.old.machine.process.over ≡ None }
         requires unspent { self.old.machine.clock < self.old.settings.budget }
         ensures round { self.new ≡ with_machine self.old (round self.old.settings self.old.machine) }

@@ -178,8 +178,9 @@ Claims-listing words name asks before after bytes NoMemory read told = record {
     text = listing bytes;
     job = record { name = name; asks = asks; bytes = bytes; read = read; lists = refl; answers = refl };
     out = told.0;
+    faults = told.1;
   });
-  note = told.1;
+  note = told.2;
 }
 
 -- the file to list can't be read, and that was told

@@ -86,7 +86,7 @@ TellsReport out out' note note' report status.NoMemory = ⊥
 abbrev pub TellsListing : SinkState → SinkState → SinkState → SinkState → List ℕ → Status → Type 0
 TellsListing out out' note note' text status.Done = IsWritten out out' text × (note' ≡ note)
 TellsListing out out' note note' text status.WriteFault = IsCutOff out out' text × IsNoted note note' notes.write_failed
-TellsListing out out' note note' text status.NoMemory = IsBegun out out' text × IsNoted note note' notes.no_memory
+TellsListing out out' note note' text status.NoMemory = IsBegun out out' text × (out'.faults ≡ out.faults) × IsNoted note note' notes.no_memory
 TellsListing out out' note note' text status.Spent = ⊥
 TellsListing out out' note note' text status.Usage = ⊥
 TellsListing out out' note note' text status.ReadFault = ⊥

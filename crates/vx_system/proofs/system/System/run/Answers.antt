@@ -13,7 +13,7 @@ loop-self-preserved c =
     let over : c.loop-self.self.machine.process.over ≡ c.over.result = view ∙ sym c.over.ensures in
     let goes : is_some c.over.result ≡ false = search rules in
     let early : c.loop-self.self.machine.clock < c.loop-self.self.settings.budget = search rules in
-    IsOnItsWay-more _ _ _ c.loop-self.invariant (stop_of-none c.loop-self.self c.over.result over goes early) c.turn.ensures.round c.turn.ensures.steps
+    IsOnItsWay-more _ _ _ c.loop-self.invariant (stop_of-none c.loop-self.self c.over.result over goes early) c.round.ensures.round c.round.ensures.steps
 
 pub returns-then-self : goal.returns-then-self
 returns-then-self c =
