@@ -1,4 +1,4 @@
-ghost use Rattle.std.specs.Prelude.{◌≡◌, IfSome, ◌<◌};
+ghost use Rattle.std.specs.Prelude.{◌≡◌, IfSome, ◌<◌, ℕ, Some};
 ghost use Rattle.vx_decode.specs.Decoded.{decoded, with_operands, register_at, vm_of, nf_of};
 ghost use Rattle.vx_decode.specs.Encoded.{IsValid};
 ghost use Rattle.vx_rows.specs.Layouts.{layout_of};
@@ -19,6 +19,11 @@ pub fn decode(word: u32) -> Option<Instr>
     let op = operation(word)?;
     Some(operands(word, op))
 }
+
+/// The instruction of a word is a valid one.
+pub fn decoded_is_valid()
+    ensures { (word : ℕ) (i : Instr) → decoded word ≡ Some i → IsValid i }
+{}
 
 /// The operation with the operands that the word holds for it.
 fn operands(word: u32, op: Op) -> Instr
