@@ -4,10 +4,10 @@ ghost use Rattle.vx_flat.specs.Process.{after, begun, stepped};
 ghost use Rattle.vx_alone.specs.Operands.{IsAligned, IsPerformable};
 ghost use Rattle.vx_base.specs.Numbers.{signed};
 ghost use Rattle.vx_decode.specs.Decoded.{decoded};
+ghost use Rattle.vx_decode.specs.Encoded.{IsValid};
 ghost use Rattle.vx_flat.specs.Service.{service, answered, write};
 ghost use Rattle.vx_flat.specs.State.{following, register};
-ghost use Rattle.vx_flat.specs.Scalar.{effect};
-ghost use Rattle.vx_flat.specs.Step.{meaning, is_executed, upcoming, performed, performed_as, affected, load, load_from, store, store_at, ecall, faulted};
+ghost use Rattle.vx_flat.specs.Step.{meaning, is_executed, upcoming, performed, performed_as, affect, affected, refused, load, load_from, store, store_at, ecall, faulted};
 ghost use Rattle.vx_flat.specs.Step.Outcome.{Next, Exited};
 ghost use Rattle.vx_rows.specs.Table.{class_of};
 ghost use Rattle.vx_scalar.specs.Operands.{NamesRegisters, is_access_width};
@@ -19,7 +19,7 @@ use crate::turn::Turn;
 use std::alloc::{AllocError, Global};
 use std::marker::Model;
 use vx_base::Fault;
-use vx_decode::{Instr, decode};
+use vx_decode::{Instr, decode, decoded_is_valid, encode};
 use vx_flat::{Effect, End, Upcoming};
 use vx_image::Image;
 use vx_rows::Class;
@@ -87,6 +87,7 @@ impl Alone {
         ensures stepped { self.new ≡ stepped self.old }
         ensures turn { result ≡ turn_of self.new.over }
     {
+        decoded_is_valid();
         self.act(next);
         self.turn()
     }
@@ -159,26 +160,38 @@ impl Alone {
     }
 
     /// Does an instruction.
+    #[tactic(auto, using(crate::proofs::Performable::names_registers))]
     fn execute(&mut self, i: Instr)
         requires running { self.old.over ≡ None }
-        requires registers { NamesRegisters i }
+        requires valid { IsValid i }
         ensures { self.new ≡ after self.old (performed_as (class_of i.op) self.old.state i) }
     {
         match i.op.class() {
+            Class::Arithmetic | Class::Multiply | Class::Divide => self.affect(i),
+            Class::Jump | Class::Branch | Class::Fence => self.affect(i),
             Class::Load => self.load(i),
             Class::Store => self.store(i),
             Class::Ecall => self.ecall(),
             Class::Ebreak => self.fault(3, 0),
-            Class::Csr => self.fault(2, 0),
-            _ => self.affect(i),
+            Class::Csr | Class::Set => self.refuse(i),
+            Class::VectorArithmetic(_) => self.refuse(i),
+            Class::VectorLoad(_, _) | Class::VectorStore(_, _) => self.refuse(i),
         }
+    }
+
+    /// Ends at an instruction that isn't executed.
+    fn refuse(&mut self, i: Instr)
+        requires valid { IsValid i }
+        ensures { self.new ≡ after self.old (refused self.old.state i) }
+    {
+        self.fault(2, u64::from(encode(&i)));
     }
 
     /// Does an instruction that touches no memory.
     fn affect(&mut self, i: Instr)
         requires running { self.old.over ≡ None }
         requires registers { NamesRegisters i }
-        ensures { self.new ≡ after self.old (affected self.old.state i.rd (effect i self.old.state.x self.old.state.pc)) }
+        ensures { self.new ≡ after self.old (affect self.old.state i) }
     {
         let effect = scalar(&i, &self.arch.regs, self.arch.pc);
         self.take(i.rd, effect);
@@ -356,5 +369,10 @@ fn meaning(word: u32) -> Upcoming
 fn is_executed(class: Class) -> bool
     ensures { result ≡ is_executed class }
 {
-    !matches!(class, Class::Csr)
+    match class {
+        Class::Arithmetic | Class::Multiply | Class::Divide | Class::Jump | Class::Branch => true,
+        Class::Load | Class::Store | Class::Fence | Class::Ecall | Class::Ebreak => true,
+        Class::Csr | Class::Set | Class::VectorArithmetic(_) => false,
+        Class::VectorLoad(_, _) | Class::VectorStore(_, _) => false,
+    }
 }

@@ -1,187 +1,364 @@
--- A word by its operands and its other bits, in each layout of operands.
-use Rattle.std.proofs.Common.{◌≡◌, ℕ, ◌+◌, ◌*◌, ◌%◌, ◌^◌, ◌<◌, ap, sym, refl, ◌∙◌, bit_and, arith}
-use Rattle.std.proofs.Math.Nat.{mod-eq_of_lt}
-use Rattle.std.proofs.lemmas.Nat.{mod-pow-add}
+-- The parts of a word in each layout: the fixed bits, and the operands.
+use Rattle.std.proofs.Common.{◌≡◌, ℕ, ◌+◌, ◌-◌, ◌*◌, ◌^◌, ◌<◌, zero, suc, ℤ, Bool, true, false, ◌==◌, ◌&&◌, if◌then◌else◌, ap, sym, subst, refl, ◌∙◌, bit_and, bit_or, arith}
+use Rattle.std.proofs.lemmas.Bool.{eqb-true, and_parts}
+use Rattle.std.proofs.lemmas.Nat.{or_disjoint}
+use Rattle.std.specs.Int.Bits.{and_zero_r}
 use Rattle.vx_base.specs.Numbers.{field}
-use Rattle.vx_decode.proofs.Fields.{field-at, low-at, field-below, low-below}
-use Rattle.vx_decode.proofs.Masks.{and-opcode, and-head, and-shift, and-registers}
+use Rattle.vx_rows.specs.Layouts.{layout_of, bits_at, rd_mask, rs1_mask, rs2_mask, number_mask, vm_mask, operands_mask}
+use Rattle.vx_rows.specs.declared.op.Op.{Op}
+use Rattle.vx_rows.specs.declared.row.First.{First}
+use Rattle.vx_rows.specs.declared.row.First.TheVariants as first
+use Rattle.vx_rows.specs.declared.row.Layout.{Layout}
+use Rattle.vx_rows.specs.declared.row.Nf.{Nf}
+use Rattle.vx_rows.specs.declared.row.Nf.TheVariants.{Absent, Any, Registers}
+use Rattle.vx_rows.specs.declared.row.Second.{Second}
+use Rattle.vx_rows.specs.declared.row.Second.TheVariants as second
+use Rattle.vx_rows.specs.declared.row.Shape.{Shape}
+use Rattle.vx_rows.specs.declared.row.Shape.TheVariants as shape
+use Rattle.vx_rows.specs.declared.row.Vm.{Vm}
+use Rattle.vx_rows.specs.declared.row.Vm.TheVariants as vm
+use Rattle.vx_decode.specs.Decoded.{register_at, number_of, vm_of, nf_of, with_operands}
+use Rattle.vx_decode.specs.Encoded.{IsRegister, IsVm, IsNf, HasOperands, number_bits, vm_bits, operand_bits_of}
+use Rattle.vx_decode.specs.declared.instr.Instr.{Instr}
+use Rattle.vx_decode.proofs.Fields.{field-below}
+use Rattle.vx_decode.proofs.Numbers.{in_word, number-parts, number-valid, number-same, number-within}
+use Rattle.vx_decode.proofs.Rows.{IsRowNf}
+use Rattle.vx_decode.proofs.Parts.{apart-within, and-sum, within-sum, halves, and-bits_at, within-bits_at, same-at}
 
--- the fields of a word in the layout registers, over plain numbers
-fields_registers : (w v c b a rd rs1 rs2 : ℕ) → v ≡ a * 2 ^ 25 + b * 2 ^ 12 + c → w ≡ v + (rd * 2 ^ 7 + rs1 * 2 ^ 15 + rs2 * 2 ^ 20) → c < 128 → b < 8 → a < 128 → rd < 32 → rs1 < 32 → rs2 < 32 → (bit_and w 0xfe00707f ≡ v) × (field w 7 5 ≡ rd) × (field w 15 5 ≡ rs1) × (field w 20 5 ≡ rs2)
-fields_registers w v c b a rd rs1 rs2 e f b_c b_b b_a b_rd b_rs1 b_rs2 =
-    let of_c : w % 2 ^ 7 ≡ c = low-at w (rd + b * 32 + rs1 * 256 + rs2 * 8192 + a * 262144) c 7 (omega arith) (omega arith) in
-    let of_b : field w 12 3 ≡ b = field-at w (rs1 + rs2 * 32 + a * 1024) b (c + rd * 128) 12 3 (omega arith) (omega arith) (omega arith) in
-    let of_a : field w 25 7 ≡ a = field-at w (0) a (c + rd * 128 + b * 4096 + rs1 * 32768 + rs2 * 1048576) 25 7 (omega arith) (omega arith) (omega arith) in (
-      and-registers w ∙ ap (λ x. x * 2 ^ 25 + field w 12 3 * 2 ^ 12 + w % 2 ^ 7) of_a ∙ ap (λ x. a * 2 ^ 25 + x * 2 ^ 12 + w % 2 ^ 7) of_b ∙ ap (λ x. a * 2 ^ 25 + b * 2 ^ 12 + x) of_c ∙ sym e,
-      field-at w (b + rs1 * 8 + rs2 * 256 + a * 8192) rd (c) 7 5 (omega arith) (omega arith) (omega arith),
-      field-at w (rs2 + a * 32) rs1 (c + rd * 128 + b * 4096) 15 5 (omega arith) (omega arith) (omega arith),
-      field-at w (a) rs2 (c + rd * 128 + b * 4096 + rs1 * 32768) 20 5 (omega arith) (omega arith) (omega arith),
-    )
+-- the bits of nf, also where there is a row for each of its values
+abbrev pub nf_place : Nf → ℕ
+nf_place Absent = 0
+nf_place Any = bits_at 29 3
+nf_place Registers = bits_at 29 3
 
--- operands put beside fixed bits are found again
-pub placed_registers : (v rd rs1 rs2 : ℕ) → bit_and v 0xfe00707f ≡ v → rd < 32 → rs1 < 32 → rs2 < 32 → (bit_and (v + (rd * 2 ^ 7 + rs1 * 2 ^ 15 + rs2 * 2 ^ 20)) 0xfe00707f ≡ v) × (field (v + (rd * 2 ^ 7 + rs1 * 2 ^ 15 + rs2 * 2 ^ 20)) 7 5 ≡ rd) × (field (v + (rd * 2 ^ 7 + rs1 * 2 ^ 15 + rs2 * 2 ^ 20)) 15 5 ≡ rs1) × (field (v + (rd * 2 ^ 7 + rs1 * 2 ^ 15 + rs2 * 2 ^ 20)) 20 5 ≡ rs2)
-placed_registers v rd rs1 rs2 fixed b_rd b_rs1 b_rs2 =
-    fields_registers (v + (rd * 2 ^ 7 + rs1 * 2 ^ 15 + rs2 * 2 ^ 20)) v (v % 2 ^ 7) (field v 12 3) (field v 25 7) rd rs1 rs2 (sym fixed ∙ and-registers v) refl (low-below v 7) (field-below v 12 3) (field-below v 25 7) b_rd b_rs1 b_rs2
+-- the places of the first few operands
+abbrev pub to_rs1 : Layout → ℕ
+to_rs1 l = rd_mask l + rs1_mask l
 
-sum_registers : (w a r25 rs2 r20 rs1 r15 b r12 rd r7 : ℕ) → w ≡ a * 33554432 + r25 → r25 ≡ rs2 * 1048576 + r20 → r20 ≡ rs1 * 32768 + r15 → r15 ≡ b * 4096 + r12 → r12 ≡ rd * 128 + r7 → w ≡ a * 2 ^ 25 + b * 2 ^ 12 + r7 + (rd * 2 ^ 7 + rs1 * 2 ^ 15 + rs2 * 2 ^ 20)
-sum_registers w a r25 rs2 r20 rs1 r15 b r12 rd r7 e0 e1 e2 e3 e4 = omega arith
+abbrev pub to_rs2 : Layout → ℕ
+to_rs2 l = to_rs1 l + rs2_mask l
 
--- a word is its fixed bits and its operands
-pub parts_registers : (word : ℕ) → word < 2 ^ 32 → word ≡ bit_and word 0xfe00707f + (field word 7 5 * 2 ^ 7 + field word 15 5 * 2 ^ 15 + field word 20 5 * 2 ^ 20)
-parts_registers word fits =
-    sum_registers word (field word 25 7) (word % 2 ^ 25) (field word 20 5) (word % 2 ^ 20) (field word 15 5) (word % 2 ^ 15) (field word 12 3) (word % 2 ^ 12) (field word 7 5) (word % 2 ^ 7) (sym (mod-eq_of_lt fits) ∙ mod-pow-add word 7 25) (mod-pow-add word 5 20) (mod-pow-add word 5 15) (mod-pow-add word 3 12) (mod-pow-add word 5 7)
-    ∙ ap (λ x. x + (field word 7 5 * 2 ^ 7 + field word 15 5 * 2 ^ 15 + field word 20 5 * 2 ^ 20)) (sym (and-registers word))
+abbrev pub to_number : Layout → ℕ
+to_number l = to_rs2 l + number_mask l.number
 
--- the fields of a word in the layout shift, over plain numbers
-fields_shift : (w v c b a rd rs1 n : ℕ) → v ≡ a * 2 ^ 26 + b * 2 ^ 12 + c → w ≡ v + (rd * 2 ^ 7 + rs1 * 2 ^ 15 + n * 2 ^ 20) → c < 128 → b < 8 → a < 64 → rd < 32 → rs1 < 32 → n < 64 → (bit_and w 0xfc00707f ≡ v) × (field w 7 5 ≡ rd) × (field w 15 5 ≡ rs1) × (field w 20 6 ≡ n)
-fields_shift w v c b a rd rs1 n e f b_c b_b b_a b_rd b_rs1 b_n =
-    let of_c : w % 2 ^ 7 ≡ c = low-at w (rd + b * 32 + rs1 * 256 + n * 8192 + a * 524288) c 7 (omega arith) (omega arith) in
-    let of_b : field w 12 3 ≡ b = field-at w (rs1 + n * 32 + a * 2048) b (c + rd * 128) 12 3 (omega arith) (omega arith) (omega arith) in
-    let of_a : field w 26 6 ≡ a = field-at w (0) a (c + rd * 128 + b * 4096 + rs1 * 32768 + n * 1048576) 26 6 (omega arith) (omega arith) (omega arith) in (
-      and-shift w ∙ ap (λ x. x * 2 ^ 26 + field w 12 3 * 2 ^ 12 + w % 2 ^ 7) of_a ∙ ap (λ x. a * 2 ^ 26 + x * 2 ^ 12 + w % 2 ^ 7) of_b ∙ ap (λ x. a * 2 ^ 26 + b * 2 ^ 12 + x) of_c ∙ sym e,
-      field-at w (b + rs1 * 8 + n * 256 + a * 16384) rd (c) 7 5 (omega arith) (omega arith) (omega arith),
-      field-at w (n + a * 64) rs1 (c + rd * 128 + b * 4096) 15 5 (omega arith) (omega arith) (omega arith),
-      field-at w (a) n (c + rd * 128 + b * 4096 + rs1 * 32768) 20 6 (omega arith) (omega arith) (omega arith),
-    )
+abbrev pub to_vm : Layout → ℕ
+to_vm l = to_number l + vm_mask l.vm
 
--- operands put beside fixed bits are found again
-pub placed_shift : (v rd rs1 n : ℕ) → bit_and v 0xfc00707f ≡ v → rd < 32 → rs1 < 32 → n < 64 → (bit_and (v + (rd * 2 ^ 7 + rs1 * 2 ^ 15 + n * 2 ^ 20)) 0xfc00707f ≡ v) × (field (v + (rd * 2 ^ 7 + rs1 * 2 ^ 15 + n * 2 ^ 20)) 7 5 ≡ rd) × (field (v + (rd * 2 ^ 7 + rs1 * 2 ^ 15 + n * 2 ^ 20)) 15 5 ≡ rs1) × (field (v + (rd * 2 ^ 7 + rs1 * 2 ^ 15 + n * 2 ^ 20)) 20 6 ≡ n)
-placed_shift v rd rs1 n fixed b_rd b_rs1 b_n =
-    fields_shift (v + (rd * 2 ^ 7 + rs1 * 2 ^ 15 + n * 2 ^ 20)) v (v % 2 ^ 7) (field v 12 3) (field v 26 6) rd rs1 n (sym fixed ∙ and-shift v) refl (low-below v 7) (field-below v 12 3) (field-below v 26 6) b_rd b_rs1 b_n
+abbrev pub places : Layout → ℕ
+places l = to_vm l + nf_place l.nf
 
-sum_shift : (w a r26 n r20 rs1 r15 b r12 rd r7 : ℕ) → w ≡ a * 67108864 + r26 → r26 ≡ n * 1048576 + r20 → r20 ≡ rs1 * 32768 + r15 → r15 ≡ b * 4096 + r12 → r12 ≡ rd * 128 + r7 → w ≡ a * 2 ^ 26 + b * 2 ^ 12 + r7 + (rd * 2 ^ 7 + rs1 * 2 ^ 15 + n * 2 ^ 20)
-sum_shift w a r26 n r20 rs1 r15 b r12 rd r7 e0 e1 e2 e3 e4 = omega arith
+-- the other bits
+abbrev pub fixed : Layout → ℕ
+fixed l = bits_at 0 32 - places l
 
--- a word is its fixed bits and its operands
-pub parts_shift : (word : ℕ) → word < 2 ^ 32 → word ≡ bit_and word 0xfc00707f + (field word 7 5 * 2 ^ 7 + field word 15 5 * 2 ^ 15 + field word 20 6 * 2 ^ 20)
-parts_shift word fits =
-    sum_shift word (field word 26 6) (word % 2 ^ 26) (field word 20 6) (word % 2 ^ 20) (field word 15 5) (word % 2 ^ 15) (field word 12 3) (word % 2 ^ 12) (field word 7 5) (word % 2 ^ 7) (sym (mod-eq_of_lt fits) ∙ mod-pow-add word 6 26) (mod-pow-add word 6 20) (mod-pow-add word 5 15) (mod-pow-add word 3 12) (mod-pow-add word 5 7)
-    ∙ ap (λ x. x + (field word 7 5 * 2 ^ 7 + field word 15 5 * 2 ^ 15 + field word 20 6 * 2 ^ 20)) (sym (and-shift word))
+-- bits that are fixed in a row, and are no fixed bits of its operation
+abbrev pub row_place : Nf → ℕ
+row_place Absent = 0
+row_place Any = 0
+row_place Registers = bits_at 29 3
 
--- the fields of a word in the layout number, over plain numbers
-fields_number : (w v c b rd rs1 n : ℕ) → v ≡ b * 2 ^ 12 + c → w ≡ v + (rd * 2 ^ 7 + rs1 * 2 ^ 15 + n * 2 ^ 20) → c < 128 → b < 8 → rd < 32 → rs1 < 32 → n < 4096 → (bit_and w 0x707f ≡ v) × (field w 7 5 ≡ rd) × (field w 15 5 ≡ rs1) × (field w 20 12 ≡ n)
-fields_number w v c b rd rs1 n e f b_c b_b b_rd b_rs1 b_n =
-    let of_c : w % 2 ^ 7 ≡ c = low-at w (rd + b * 32 + rs1 * 256 + n * 8192) c 7 (omega arith) (omega arith) in
-    let of_b : field w 12 3 ≡ b = field-at w (rs1 + n * 32) b (c + rd * 128) 12 3 (omega arith) (omega arith) (omega arith) in (
-      and-head w ∙ ap (λ x. x * 2 ^ 12 + w % 2 ^ 7) of_b ∙ ap (λ x. b * 2 ^ 12 + x) of_c ∙ sym e,
-      field-at w (b + rs1 * 8 + n * 256) rd (c) 7 5 (omega arith) (omega arith) (omega arith),
-      field-at w (n) rs1 (c + rd * 128 + b * 4096) 15 5 (omega arith) (omega arith) (omega arith),
-      field-at w (0) n (c + rd * 128 + b * 4096 + rs1 * 32768) 20 12 (omega arith) (omega arith) (omega arith),
-    )
+-- no two parts share a bit, and together they are a word
+abbrev pub fits : Layout → Bool
+fits l =
+    (bit_and (rd_mask l) (rs1_mask l) == 0)
+    && (bit_and (to_rs1 l) (rs2_mask l) == 0)
+    && (bit_and (to_rs2 l) (number_mask l.number) == 0)
+    && (bit_and (to_number l) (vm_mask l.vm) == 0)
+    && (bit_and (to_vm l) (nf_place l.nf) == 0)
+    && (bit_and (fixed l) (places l) == 0)
+    && (bit_and (fixed l) (row_place l.nf) == 0)
+    && (fixed l + places l == 0xffffffff)
+    && (bits_at 0 32 - operands_mask l == fixed l + row_place l.nf)
+    && in_word l.number
 
--- operands put beside fixed bits are found again
-pub placed_number : (v rd rs1 n : ℕ) → bit_and v 0x707f ≡ v → rd < 32 → rs1 < 32 → n < 4096 → (bit_and (v + (rd * 2 ^ 7 + rs1 * 2 ^ 15 + n * 2 ^ 20)) 0x707f ≡ v) × (field (v + (rd * 2 ^ 7 + rs1 * 2 ^ 15 + n * 2 ^ 20)) 7 5 ≡ rd) × (field (v + (rd * 2 ^ 7 + rs1 * 2 ^ 15 + n * 2 ^ 20)) 15 5 ≡ rs1) × (field (v + (rd * 2 ^ 7 + rs1 * 2 ^ 15 + n * 2 ^ 20)) 20 12 ≡ n)
-placed_number v rd rs1 n fixed b_rd b_rs1 b_n =
-    fields_number (v + (rd * 2 ^ 7 + rs1 * 2 ^ 15 + n * 2 ^ 20)) v (v % 2 ^ 7) (field v 12 3) rd rs1 n (sym fixed ∙ and-head v) refl (low-below v 7) (field-below v 12 3) b_rd b_rs1 b_n
+fits-vector : (f : First) (s : Second) (v : Vm) → fits (layout_of (shape.Vector f s v)) ≡ true
+fits-vector first.Vector second.Vector vm.Any = refl
+fits-vector first.Vector second.Vector v = refl
+fits-vector first.Vector second.Fixed vm.Any = refl
+fits-vector first.Vector second.Fixed v = refl
+fits-vector first.Integer second.Vector vm.Any = refl
+fits-vector first.Integer second.Vector v = refl
+fits-vector first.Integer second.Fixed vm.Any = refl
+fits-vector first.Integer second.Fixed v = refl
+fits-vector first.Signed second.Vector vm.Any = refl
+fits-vector first.Signed second.Vector v = refl
+fits-vector first.Signed second.Fixed vm.Any = refl
+fits-vector first.Signed second.Fixed v = refl
+fits-vector first.Unsigned second.Vector vm.Any = refl
+fits-vector first.Unsigned second.Vector v = refl
+fits-vector first.Unsigned second.Fixed vm.Any = refl
+fits-vector first.Unsigned second.Fixed v = refl
+fits-vector first.Fixed second.Vector vm.Any = refl
+fits-vector first.Fixed second.Vector v = refl
+fits-vector first.Fixed second.Fixed vm.Any = refl
+fits-vector first.Fixed second.Fixed v = refl
 
-sum_number : (w n r20 rs1 r15 b r12 rd r7 : ℕ) → w ≡ n * 1048576 + r20 → r20 ≡ rs1 * 32768 + r15 → r15 ≡ b * 4096 + r12 → r12 ≡ rd * 128 + r7 → w ≡ b * 2 ^ 12 + r7 + (rd * 2 ^ 7 + rs1 * 2 ^ 15 + n * 2 ^ 20)
-sum_number w n r20 rs1 r15 b r12 rd r7 e0 e1 e2 e3 = omega arith
+pub fits-shape : (s : Shape) → fits (layout_of s) ≡ true
+fits-shape shape.Registers = refl
+fits-shape shape.Immediate = refl
+fits-shape shape.Shift = refl
+fits-shape shape.ShiftWord = refl
+fits-shape shape.Load = refl
+fits-shape shape.Store = refl
+fits-shape shape.Branch = refl
+fits-shape shape.Upper = refl
+fits-shape shape.Jump = refl
+fits-shape shape.Fence = refl
+fits-shape shape.Csr = refl
+fits-shape shape.CsrNumber = refl
+fits-shape shape.Fixed = refl
+fits-shape shape.SetType = refl
+fits-shape shape.SetNumber = refl
+fits-shape shape.SetRegister = refl
+fits-shape (shape.Vector f s v) = fits-vector f s v
+fits-shape shape.UnitMemory = refl
+fits-shape shape.WholeMemory = refl
+fits-shape shape.MaskMemory = refl
+fits-shape shape.StridedMemory = refl
+fits-shape shape.IndexedMemory = refl
 
--- a word is its fixed bits and its operands
-pub parts_number : (word : ℕ) → word < 2 ^ 32 → word ≡ bit_and word 0x707f + (field word 7 5 * 2 ^ 7 + field word 15 5 * 2 ^ 15 + field word 20 12 * 2 ^ 20)
-parts_number word fits =
-    sum_number word (field word 20 12) (word % 2 ^ 20) (field word 15 5) (word % 2 ^ 15) (field word 12 3) (word % 2 ^ 12) (field word 7 5) (word % 2 ^ 7) (sym (mod-eq_of_lt fits) ∙ mod-pow-add word 12 20) (mod-pow-add word 5 15) (mod-pow-add word 3 12) (mod-pow-add word 5 7)
-    ∙ ap (λ x. x + (field word 7 5 * 2 ^ 7 + field word 15 5 * 2 ^ 15 + field word 20 12 * 2 ^ 20)) (sym (and-head word))
+-- the parts of the test
+pub record Fits (l : Layout) : Type 0 where
+  pub rs1 : bit_and (rd_mask l) (rs1_mask l) ≡ 0
+  pub rs2 : bit_and (to_rs1 l) (rs2_mask l) ≡ 0
+  pub number : bit_and (to_rs2 l) (number_mask l.number) ≡ 0
+  pub vm : bit_and (to_number l) (vm_mask l.vm) ≡ 0
+  pub nf : bit_and (to_vm l) (nf_place l.nf) ≡ 0
+  pub apart : bit_and (fixed l) (places l) ≡ 0
+  pub row : bit_and (fixed l) (row_place l.nf) ≡ 0
+  pub all : fixed l + places l ≡ 0xffffffff
+  pub mask : bits_at 0 32 - operands_mask l ≡ fixed l + row_place l.nf
+  pub in_word : in_word l.number ≡ true
 
--- the fields of a word in the layout store, over plain numbers
-fields_store : (w v c b low rs1 rs2 high : ℕ) → v ≡ b * 2 ^ 12 + c → w ≡ v + (rs1 * 2 ^ 15 + rs2 * 2 ^ 20 + (high * 2 ^ 25 + low * 2 ^ 7)) → c < 128 → b < 8 → low < 32 → rs1 < 32 → rs2 < 32 → high < 128 → (bit_and w 0x707f ≡ v) × (field w 7 5 ≡ low) × (field w 15 5 ≡ rs1) × (field w 20 5 ≡ rs2) × (field w 25 7 ≡ high)
-fields_store w v c b low rs1 rs2 high e f b_c b_b b_low b_rs1 b_rs2 b_high =
-    let of_c : w % 2 ^ 7 ≡ c = low-at w (low + b * 32 + rs1 * 256 + rs2 * 8192 + high * 262144) c 7 (omega arith) (omega arith) in
-    let of_b : field w 12 3 ≡ b = field-at w (rs1 + rs2 * 32 + high * 1024) b (c + low * 128) 12 3 (omega arith) (omega arith) (omega arith) in (
-      and-head w ∙ ap (λ x. x * 2 ^ 12 + w % 2 ^ 7) of_b ∙ ap (λ x. b * 2 ^ 12 + x) of_c ∙ sym e,
-      field-at w (b + rs1 * 8 + rs2 * 256 + high * 8192) low (c) 7 5 (omega arith) (omega arith) (omega arith),
-      field-at w (rs2 + high * 32) rs1 (c + low * 128 + b * 4096) 15 5 (omega arith) (omega arith) (omega arith),
-      field-at w (high) rs2 (c + low * 128 + b * 4096 + rs1 * 32768) 20 5 (omega arith) (omega arith) (omega arith),
-      field-at w (0) high (c + low * 128 + b * 4096 + rs1 * 32768 + rs2 * 1048576) 25 7 (omega arith) (omega arith) (omega arith),
-    )
+pub fits-parts : (l : Layout) → fits l ≡ true → Fits l
+fits-parts l t =
+    let i = and_parts _ _ t in
+    let h = and_parts _ _ i.0 in
+    let g = and_parts _ _ h.0 in
+    let f = and_parts _ _ g.0 in
+    let e = and_parts _ _ f.0 in
+    let d = and_parts _ _ e.0 in
+    let c = and_parts _ _ d.0 in
+    let b = and_parts _ _ c.0 in
+    let a = and_parts _ _ b.0 in
+    record {
+      rs1 = eqb-true _ _ a.0;
+      rs2 = eqb-true _ _ a.1;
+      number = eqb-true _ _ b.1;
+      vm = eqb-true _ _ c.1;
+      nf = eqb-true _ _ d.1;
+      apart = eqb-true _ _ e.1;
+      row = eqb-true _ _ f.1;
+      all = eqb-true _ _ g.1;
+      mask = eqb-true _ _ h.1;
+      in_word = i.1;
+    }
 
--- operands put beside fixed bits are found again
-pub placed_store : (v low rs1 rs2 high : ℕ) → bit_and v 0x707f ≡ v → low < 32 → rs1 < 32 → rs2 < 32 → high < 128 → (bit_and (v + (rs1 * 2 ^ 15 + rs2 * 2 ^ 20 + (high * 2 ^ 25 + low * 2 ^ 7))) 0x707f ≡ v) × (field (v + (rs1 * 2 ^ 15 + rs2 * 2 ^ 20 + (high * 2 ^ 25 + low * 2 ^ 7))) 7 5 ≡ low) × (field (v + (rs1 * 2 ^ 15 + rs2 * 2 ^ 20 + (high * 2 ^ 25 + low * 2 ^ 7))) 15 5 ≡ rs1) × (field (v + (rs1 * 2 ^ 15 + rs2 * 2 ^ 20 + (high * 2 ^ 25 + low * 2 ^ 7))) 20 5 ≡ rs2) × (field (v + (rs1 * 2 ^ 15 + rs2 * 2 ^ 20 + (high * 2 ^ 25 + low * 2 ^ 7))) 25 7 ≡ high)
-placed_store v low rs1 rs2 high fixed b_low b_rs1 b_rs2 b_high =
-    fields_store (v + (rs1 * 2 ^ 15 + rs2 * 2 ^ 20 + (high * 2 ^ 25 + low * 2 ^ 7))) v (v % 2 ^ 7) (field v 12 3) low rs1 rs2 high (sym fixed ∙ and-head v) refl (low-below v 7) (field-below v 12 3) b_low b_rs1 b_rs2 b_high
+-- ---- from a word
 
-sum_store : (w high r25 rs2 r20 rs1 r15 b r12 low r7 : ℕ) → w ≡ high * 33554432 + r25 → r25 ≡ rs2 * 1048576 + r20 → r20 ≡ rs1 * 32768 + r15 → r15 ≡ b * 4096 + r12 → r12 ≡ low * 128 + r7 → w ≡ b * 2 ^ 12 + r7 + (rs1 * 2 ^ 15 + rs2 * 2 ^ 20 + (high * 2 ^ 25 + low * 2 ^ 7))
-sum_store w high r25 rs2 r20 rs1 r15 b r12 low r7 e0 e1 e2 e3 e4 = omega arith
+nothing : (n low : ℕ) → n ≡ 0 → 0 ≡ n * 2 ^ low
+nothing n low is = rw is (omega arith)
 
--- a word is its fixed bits and its operands
-pub parts_store : (word : ℕ) → word < 2 ^ 32 → word ≡ bit_and word 0x707f + (field word 15 5 * 2 ^ 15 + field word 20 5 * 2 ^ 20 + (field word 25 7 * 2 ^ 25 + field word 7 5 * 2 ^ 7))
-parts_store word fits =
-    sum_store word (field word 25 7) (word % 2 ^ 25) (field word 20 5) (word % 2 ^ 20) (field word 15 5) (word % 2 ^ 15) (field word 12 3) (word % 2 ^ 12) (field word 7 5) (word % 2 ^ 7) (sym (mod-eq_of_lt fits) ∙ mod-pow-add word 7 25) (mod-pow-add word 5 20) (mod-pow-add word 5 15) (mod-pow-add word 3 12) (mod-pow-add word 5 7)
-    ∙ ap (λ x. x + (field word 15 5 * 2 ^ 15 + field word 20 5 * 2 ^ 20 + (field word 25 7 * 2 ^ 25 + field word 7 5 * 2 ^ 7))) (sym (and-head word))
+register-parts : (has : Bool) (low w : ℕ) → bit_and w (if has then bits_at low 5 else 0) ≡ register_at low has w * 2 ^ low
+register-parts true low w = and-bits_at w low 5
+register-parts false low w = and_zero_r w ∙ nothing 0 low refl
 
--- the fields of a word in the layout branch, over plain numbers
-fields_branch : (w v c b third fourth rs1 rs2 second first : ℕ) → v ≡ b * 2 ^ 12 + c → w ≡ v + (rs1 * 2 ^ 15 + rs2 * 2 ^ 20 + (first * 2 ^ 31 + second * 2 ^ 25 + fourth * 2 ^ 8 + third * 2 ^ 7)) → c < 128 → b < 8 → third < 2 → fourth < 16 → rs1 < 32 → rs2 < 32 → second < 64 → first < 2 → (bit_and w 0x707f ≡ v) × (field w 7 1 ≡ third) × (field w 8 4 ≡ fourth) × (field w 15 5 ≡ rs1) × (field w 20 5 ≡ rs2) × (field w 25 6 ≡ second) × (field w 31 1 ≡ first)
-fields_branch w v c b third fourth rs1 rs2 second first e f b_c b_b b_third b_fourth b_rs1 b_rs2 b_second b_first =
-    let of_c : w % 2 ^ 7 ≡ c = low-at w (third + fourth * 2 + b * 32 + rs1 * 256 + rs2 * 8192 + second * 262144 + first * 16777216) c 7 (omega arith) (omega arith) in
-    let of_b : field w 12 3 ≡ b = field-at w (rs1 + rs2 * 32 + second * 1024 + first * 65536) b (c + third * 128 + fourth * 256) 12 3 (omega arith) (omega arith) (omega arith) in (
-      and-head w ∙ ap (λ x. x * 2 ^ 12 + w % 2 ^ 7) of_b ∙ ap (λ x. b * 2 ^ 12 + x) of_c ∙ sym e,
-      field-at w (fourth + b * 16 + rs1 * 128 + rs2 * 4096 + second * 131072 + first * 8388608) third (c) 7 1 (omega arith) (omega arith) (omega arith),
-      field-at w (b + rs1 * 8 + rs2 * 256 + second * 8192 + first * 524288) fourth (c + third * 128) 8 4 (omega arith) (omega arith) (omega arith),
-      field-at w (rs2 + second * 32 + first * 2048) rs1 (c + third * 128 + fourth * 256 + b * 4096) 15 5 (omega arith) (omega arith) (omega arith),
-      field-at w (second + first * 64) rs2 (c + third * 128 + fourth * 256 + b * 4096 + rs1 * 32768) 20 5 (omega arith) (omega arith) (omega arith),
-      field-at w (first) second (c + third * 128 + fourth * 256 + b * 4096 + rs1 * 32768 + rs2 * 1048576) 25 6 (omega arith) (omega arith) (omega arith),
-      field-at w (0) first (c + third * 128 + fourth * 256 + b * 4096 + rs1 * 32768 + rs2 * 1048576 + second * 33554432) 31 1 (omega arith) (omega arith) (omega arith),
-    )
+vm_bit : (n : ℕ) → n < 2 → n * 2 ^ 25 ≡ (if n == 1 then 2 ^ 25 else 0)
+vm_bit zero below = refl
+vm_bit (suc zero) below = refl
+vm_bit (suc (suc n)) below = absurd (omega arith)
 
--- operands put beside fixed bits are found again
-pub placed_branch : (v third fourth rs1 rs2 second first : ℕ) → bit_and v 0x707f ≡ v → third < 2 → fourth < 16 → rs1 < 32 → rs2 < 32 → second < 64 → first < 2 → (bit_and (v + (rs1 * 2 ^ 15 + rs2 * 2 ^ 20 + (first * 2 ^ 31 + second * 2 ^ 25 + fourth * 2 ^ 8 + third * 2 ^ 7))) 0x707f ≡ v) × (field (v + (rs1 * 2 ^ 15 + rs2 * 2 ^ 20 + (first * 2 ^ 31 + second * 2 ^ 25 + fourth * 2 ^ 8 + third * 2 ^ 7))) 7 1 ≡ third) × (field (v + (rs1 * 2 ^ 15 + rs2 * 2 ^ 20 + (first * 2 ^ 31 + second * 2 ^ 25 + fourth * 2 ^ 8 + third * 2 ^ 7))) 8 4 ≡ fourth) × (field (v + (rs1 * 2 ^ 15 + rs2 * 2 ^ 20 + (first * 2 ^ 31 + second * 2 ^ 25 + fourth * 2 ^ 8 + third * 2 ^ 7))) 15 5 ≡ rs1) × (field (v + (rs1 * 2 ^ 15 + rs2 * 2 ^ 20 + (first * 2 ^ 31 + second * 2 ^ 25 + fourth * 2 ^ 8 + third * 2 ^ 7))) 20 5 ≡ rs2) × (field (v + (rs1 * 2 ^ 15 + rs2 * 2 ^ 20 + (first * 2 ^ 31 + second * 2 ^ 25 + fourth * 2 ^ 8 + third * 2 ^ 7))) 25 6 ≡ second) × (field (v + (rs1 * 2 ^ 15 + rs2 * 2 ^ 20 + (first * 2 ^ 31 + second * 2 ^ 25 + fourth * 2 ^ 8 + third * 2 ^ 7))) 31 1 ≡ first)
-placed_branch v third fourth rs1 rs2 second first fixed b_third b_fourth b_rs1 b_rs2 b_second b_first =
-    fields_branch (v + (rs1 * 2 ^ 15 + rs2 * 2 ^ 20 + (first * 2 ^ 31 + second * 2 ^ 25 + fourth * 2 ^ 8 + third * 2 ^ 7))) v (v % 2 ^ 7) (field v 12 3) third fourth rs1 rs2 second first (sym fixed ∙ and-head v) refl (low-below v 7) (field-below v 12 3) b_third b_fourth b_rs1 b_rs2 b_second b_first
+vm-parts : (v : Vm) (w : ℕ) → bit_and w (vm_mask v) ≡ vm_bits v (vm_of v w)
+vm-parts vm.Any w = and-bits_at w 25 1 ∙ vm_bit (field w 25 1) (field-below w 25 1)
+vm-parts vm.Zero w = and_zero_r w
+vm-parts vm.One w = and_zero_r w
 
-sum_branch : (w first r31 second r25 rs2 r20 rs1 r15 b r12 fourth r8 third r7 : ℕ) → w ≡ first * 2147483648 + r31 → r31 ≡ second * 33554432 + r25 → r25 ≡ rs2 * 1048576 + r20 → r20 ≡ rs1 * 32768 + r15 → r15 ≡ b * 4096 + r12 → r12 ≡ fourth * 256 + r8 → r8 ≡ third * 128 + r7 → w ≡ b * 2 ^ 12 + r7 + (rs1 * 2 ^ 15 + rs2 * 2 ^ 20 + (first * 2 ^ 31 + second * 2 ^ 25 + fourth * 2 ^ 8 + third * 2 ^ 7))
-sum_branch w first r31 second r25 rs2 r20 rs1 r15 b r12 fourth r8 third r7 e0 e1 e2 e3 e4 e5 e6 = omega arith
+nf-parts : (n : Nf) (w : ℕ) → bit_and w (nf_place n) ≡ nf_of n w * 2 ^ 29
+nf-parts Absent w = and_zero_r w
+nf-parts Any w = and-bits_at w 29 3
+nf-parts Registers w = and-bits_at w 29 3
 
--- a word is its fixed bits and its operands
-pub parts_branch : (word : ℕ) → word < 2 ^ 32 → word ≡ bit_and word 0x707f + (field word 15 5 * 2 ^ 15 + field word 20 5 * 2 ^ 20 + (field word 31 1 * 2 ^ 31 + field word 25 6 * 2 ^ 25 + field word 8 4 * 2 ^ 8 + field word 7 1 * 2 ^ 7))
-parts_branch word fits =
-    sum_branch word (field word 31 1) (word % 2 ^ 31) (field word 25 6) (word % 2 ^ 25) (field word 20 5) (word % 2 ^ 20) (field word 15 5) (word % 2 ^ 15) (field word 12 3) (word % 2 ^ 12) (field word 8 4) (word % 2 ^ 8) (field word 7 1) (word % 2 ^ 7) (sym (mod-eq_of_lt fits) ∙ mod-pow-add word 1 31) (mod-pow-add word 6 25) (mod-pow-add word 5 20) (mod-pow-add word 5 15) (mod-pow-add word 3 12) (mod-pow-add word 4 8) (mod-pow-add word 1 7)
-    ∙ ap (λ x. x + (field word 15 5 * 2 ^ 15 + field word 20 5 * 2 ^ 20 + (field word 31 1 * 2 ^ 31 + field word 25 6 * 2 ^ 25 + field word 8 4 * 2 ^ 8 + field word 7 1 * 2 ^ 7))) (sym (and-head word))
+-- a word is its fixed bits and the bits of its operands
+pub word-parts : (l : Layout) → Fits l → (op : Op) (w : ℕ) → bit_and w 0xffffffff ≡ w → w ≡ bit_and w (fixed l) + operand_bits_of l (with_operands w op l)
+word-parts l f op w whole =
+    let to_rs1_is : bit_and w (to_rs1 l) ≡ register_at 7 l.rd w * 2 ^ 7 + register_at 15 l.rs1 w * 2 ^ 15 =
+    and-sum w (rd_mask l) (rs1_mask l) f.rs1 ∙ ap (λ x. x + bit_and w (rs1_mask l)) (register-parts l.rd 7 w) ∙ ap (λ x. register_at 7 l.rd w * 2 ^ 7 + x) (register-parts l.rs1 15 w) in
+    let to_rs2_is : bit_and w (to_rs2 l) ≡ register_at 7 l.rd w * 2 ^ 7 + register_at 15 l.rs1 w * 2 ^ 15 + register_at 20 l.rs2 w * 2 ^ 20 =
+    and-sum w (to_rs1 l) (rs2_mask l) f.rs2 ∙ ap (λ x. x + bit_and w (rs2_mask l)) to_rs1_is ∙ ap (λ x. register_at 7 l.rd w * 2 ^ 7 + register_at 15 l.rs1 w * 2 ^ 15 + x) (register-parts l.rs2 20 w) in
+    let registers = register_at 7 l.rd w * 2 ^ 7 + register_at 15 l.rs1 w * 2 ^ 15 + register_at 20 l.rs2 w * 2 ^ 20 in
+    let to_number_is : bit_and w (to_number l) ≡ registers + number_bits l.number (number_of l.number w) =
+    and-sum w (to_rs2 l) (number_mask l.number) f.number ∙ ap (λ x. x + bit_and w (number_mask l.number)) to_rs2_is ∙ ap (λ x. registers + x) (number-parts l.number f.in_word w) in
+    let to_vm_is : bit_and w (to_vm l) ≡ registers + number_bits l.number (number_of l.number w) + vm_bits l.vm (vm_of l.vm w) =
+    and-sum w (to_number l) (vm_mask l.vm) f.vm ∙ ap (λ x. x + bit_and w (vm_mask l.vm)) to_number_is ∙ ap (λ x. registers + number_bits l.number (number_of l.number w) + x) (vm-parts l.vm w) in
+    let places_are : bit_and w (places l) ≡ operand_bits_of l (with_operands w op l) =
+    and-sum w (to_vm l) (nf_place l.nf) f.nf ∙ ap (λ x. x + bit_and w (nf_place l.nf)) to_vm_is ∙ ap (λ x. registers + number_bits l.number (number_of l.number w) + vm_bits l.vm (vm_of l.vm w) + x) (nf-parts l.nf w) in
+    sym whole ∙ ap (bit_and w) (sym f.all) ∙ and-sum w (fixed l) (places l) f.apart ∙ ap (λ x. bit_and w (fixed l) + x) places_are
 
--- the fields of a word in the layout upper, over plain numbers
-fields_upper : (w v c rd n : ℕ) → v ≡ c → w ≡ v + (rd * 2 ^ 7 + n * 2 ^ 12) → c < 128 → rd < 32 → n < 1048576 → (bit_and w 0x7f ≡ v) × (field w 7 5 ≡ rd) × (field w 12 20 ≡ n)
-fields_upper w v c rd n e f b_c b_rd b_n =
-    let of_c : w % 2 ^ 7 ≡ c = low-at w (rd + n * 32) c 7 (omega arith) (omega arith) in (
-      and-opcode w ∙ ap (λ x. x) of_c ∙ sym e,
-      field-at w (n) rd (c) 7 5 (omega arith) (omega arith) (omega arith),
-      field-at w (0) n (c + rd * 128) 12 20 (omega arith) (omega arith) (omega arith),
-    )
+register-valid : (has : Bool) (low w : ℕ) → IsRegister has (register_at low has w)
+register-valid true low w = field-below w low 5
+register-valid false low w = refl
 
--- operands put beside fixed bits are found again
-pub placed_upper : (v rd n : ℕ) → bit_and v 0x7f ≡ v → rd < 32 → n < 1048576 → (bit_and (v + (rd * 2 ^ 7 + n * 2 ^ 12)) 0x7f ≡ v) × (field (v + (rd * 2 ^ 7 + n * 2 ^ 12)) 7 5 ≡ rd) × (field (v + (rd * 2 ^ 7 + n * 2 ^ 12)) 12 20 ≡ n)
-placed_upper v rd n fixed b_rd b_n =
-    fields_upper (v + (rd * 2 ^ 7 + n * 2 ^ 12)) v (v % 2 ^ 7) rd n (sym fixed ∙ and-opcode v) refl (low-below v 7) b_rd b_n
+vm-valid : (v : Vm) (w : ℕ) → IsVm v (vm_of v w)
+vm-valid vm.Any w = tt
+vm-valid vm.Zero w = refl
+vm-valid vm.One w = refl
 
-sum_upper : (w n r12 rd r7 : ℕ) → w ≡ n * 4096 + r12 → r12 ≡ rd * 128 + r7 → w ≡ r7 + (rd * 2 ^ 7 + n * 2 ^ 12)
-sum_upper w n r12 rd r7 e0 e1 = omega arith
+nf-valid : (n : Nf) (w own : ℕ) → IsRowNf n own → bit_and w (row_place n) ≡ own * 2 ^ 29 → IsNf n (nf_of n w)
+nf-valid Absent w own is same = refl
+nf-valid Any w own is same = field-below w 29 3
+nf-valid Registers w own is same = subst (IsNf Registers) (sym (same-at _ _ 29 (sym (and-bits_at w 29 3) ∙ same))) is
 
--- a word is its fixed bits and its operands
-pub parts_upper : (word : ℕ) → word < 2 ^ 32 → word ≡ bit_and word 0x7f + (field word 7 5 * 2 ^ 7 + field word 12 20 * 2 ^ 12)
-parts_upper word fits =
-    sum_upper word (field word 12 20) (word % 2 ^ 12) (field word 7 5) (word % 2 ^ 7) (sym (mod-eq_of_lt fits) ∙ mod-pow-add word 20 12) (mod-pow-add word 5 7)
-    ∙ ap (λ x. x + (field word 7 5 * 2 ^ 7 + field word 12 20 * 2 ^ 12)) (sym (and-opcode word))
+-- the operands of a word that has a row lie in their ranges
+pub operands-valid : (l : Layout) → Fits l → (op : Op) (w own : ℕ) → IsRowNf l.nf own → bit_and w (row_place l.nf) ≡ own * 2 ^ 29 → HasOperands l (with_operands w op l)
+operands-valid l f op w own is same =
+    record {
+      rd = register-valid l.rd 7 w;
+      rs1 = register-valid l.rs1 15 w;
+      rs2 = register-valid l.rs2 20 w;
+      imm = number-valid l.number f.in_word w;
+      vm = vm-valid l.vm w;
+      nf = nf-valid l.nf w own is same;
+    }
 
--- the fields of a word in the layout jump, over plain numbers
-fields_jump : (w v c rd fourth third second first : ℕ) → v ≡ c → w ≡ v + (rd * 2 ^ 7 + (first * 2 ^ 31 + second * 2 ^ 21 + third * 2 ^ 20 + fourth * 2 ^ 12)) → c < 128 → rd < 32 → fourth < 256 → third < 2 → second < 1024 → first < 2 → (bit_and w 0x7f ≡ v) × (field w 7 5 ≡ rd) × (field w 12 8 ≡ fourth) × (field w 20 1 ≡ third) × (field w 21 10 ≡ second) × (field w 31 1 ≡ first)
-fields_jump w v c rd fourth third second first e f b_c b_rd b_fourth b_third b_second b_first =
-    let of_c : w % 2 ^ 7 ≡ c = low-at w (rd + fourth * 32 + third * 8192 + second * 16384 + first * 16777216) c 7 (omega arith) (omega arith) in (
-      and-opcode w ∙ ap (λ x. x) of_c ∙ sym e,
-      field-at w (fourth + third * 256 + second * 512 + first * 524288) rd (c) 7 5 (omega arith) (omega arith) (omega arith),
-      field-at w (third + second * 2 + first * 2048) fourth (c + rd * 128) 12 8 (omega arith) (omega arith) (omega arith),
-      field-at w (second + first * 1024) third (c + rd * 128 + fourth * 4096) 20 1 (omega arith) (omega arith) (omega arith),
-      field-at w (first) second (c + rd * 128 + fourth * 4096 + third * 1048576) 21 10 (omega arith) (omega arith) (omega arith),
-      field-at w (0) first (c + rd * 128 + fourth * 4096 + third * 1048576 + second * 2097152) 31 1 (omega arith) (omega arith) (omega arith),
-    )
+-- ---- from operands
 
--- operands put beside fixed bits are found again
-pub placed_jump : (v rd fourth third second first : ℕ) → bit_and v 0x7f ≡ v → rd < 32 → fourth < 256 → third < 2 → second < 1024 → first < 2 → (bit_and (v + (rd * 2 ^ 7 + (first * 2 ^ 31 + second * 2 ^ 21 + third * 2 ^ 20 + fourth * 2 ^ 12))) 0x7f ≡ v) × (field (v + (rd * 2 ^ 7 + (first * 2 ^ 31 + second * 2 ^ 21 + third * 2 ^ 20 + fourth * 2 ^ 12))) 7 5 ≡ rd) × (field (v + (rd * 2 ^ 7 + (first * 2 ^ 31 + second * 2 ^ 21 + third * 2 ^ 20 + fourth * 2 ^ 12))) 12 8 ≡ fourth) × (field (v + (rd * 2 ^ 7 + (first * 2 ^ 31 + second * 2 ^ 21 + third * 2 ^ 20 + fourth * 2 ^ 12))) 20 1 ≡ third) × (field (v + (rd * 2 ^ 7 + (first * 2 ^ 31 + second * 2 ^ 21 + third * 2 ^ 20 + fourth * 2 ^ 12))) 21 10 ≡ second) × (field (v + (rd * 2 ^ 7 + (first * 2 ^ 31 + second * 2 ^ 21 + third * 2 ^ 20 + fourth * 2 ^ 12))) 31 1 ≡ first)
-placed_jump v rd fourth third second first fixed b_rd b_fourth b_third b_second b_first =
-    fields_jump (v + (rd * 2 ^ 7 + (first * 2 ^ 31 + second * 2 ^ 21 + third * 2 ^ 20 + fourth * 2 ^ 12))) v (v % 2 ^ 7) rd fourth third second first (sym fixed ∙ and-opcode v) refl (low-below v 7) b_rd b_fourth b_third b_second b_first
+register-within : (has : Bool) (low n : ℕ) → IsRegister has n → bit_and (n * 2 ^ low) (if has then bits_at low 5 else 0) ≡ n * 2 ^ low
+register-within true low n is = within-bits_at n low 5 is
+register-within false low n is = and_zero_r (n * 2 ^ low) ∙ nothing n low is
 
-sum_jump : (w first r31 second r21 third r20 fourth r12 rd r7 : ℕ) → w ≡ first * 2147483648 + r31 → r31 ≡ second * 2097152 + r21 → r21 ≡ third * 1048576 + r20 → r20 ≡ fourth * 4096 + r12 → r12 ≡ rd * 128 + r7 → w ≡ r7 + (rd * 2 ^ 7 + (first * 2 ^ 31 + second * 2 ^ 21 + third * 2 ^ 20 + fourth * 2 ^ 12))
-sum_jump w first r31 second r21 third r20 fourth r12 rd r7 e0 e1 e2 e3 e4 = omega arith
+register-back : (has : Bool) (low n w : ℕ) → IsRegister has n → bit_and w (if has then bits_at low 5 else 0) ≡ n * 2 ^ low → register_at low has w ≡ n
+register-back has low n w is same = same-at _ n low (sym (register-parts has low w) ∙ same)
 
--- a word is its fixed bits and its operands
-pub parts_jump : (word : ℕ) → word < 2 ^ 32 → word ≡ bit_and word 0x7f + (field word 7 5 * 2 ^ 7 + (field word 31 1 * 2 ^ 31 + field word 21 10 * 2 ^ 21 + field word 20 1 * 2 ^ 20 + field word 12 8 * 2 ^ 12))
-parts_jump word fits =
-    sum_jump word (field word 31 1) (word % 2 ^ 31) (field word 21 10) (word % 2 ^ 21) (field word 20 1) (word % 2 ^ 20) (field word 12 8) (word % 2 ^ 12) (field word 7 5) (word % 2 ^ 7) (sym (mod-eq_of_lt fits) ∙ mod-pow-add word 1 31) (mod-pow-add word 10 21) (mod-pow-add word 1 20) (mod-pow-add word 8 12) (mod-pow-add word 5 7)
-    ∙ ap (λ x. x + (field word 7 5 * 2 ^ 7 + (field word 31 1 * 2 ^ 31 + field word 21 10 * 2 ^ 21 + field word 20 1 * 2 ^ 20 + field word 12 8 * 2 ^ 12))) (sym (and-opcode word))
+vm-within : (v : Vm) (b : Bool) → bit_and (vm_bits v b) (vm_mask v) ≡ vm_bits v b
+vm-within vm.Any true = refl
+vm-within vm.Any false = refl
+vm-within vm.Zero b = refl
+vm-within vm.One b = refl
+
+bit_back : (b : Bool) (n : ℕ) → n < 2 → n * 2 ^ 25 ≡ (if b then 2 ^ 25 else 0) → (n == 1) ≡ b
+bit_back true zero below e = absurd (omega arith)
+bit_back true (suc zero) below e = refl
+bit_back true (suc (suc n)) below e = absurd (omega arith)
+bit_back false zero below e = refl
+bit_back false (suc n) below e = absurd (omega arith)
+
+vm-back : (v : Vm) (b : Bool) (w : ℕ) → IsVm v b → bit_and w (vm_mask v) ≡ vm_bits v b → vm_of v w ≡ b
+vm-back vm.Any b w is same = bit_back b (field w 25 1) (field-below w 25 1) (sym (and-bits_at w 25 1) ∙ same)
+vm-back vm.Zero b w is same = sym is
+vm-back vm.One b w is same = sym is
+
+registers_below : (n : ℕ) → IsNf Registers n → n < 8
+registers_below n is = omega arith
+
+nf-within : (k : Nf) (n : ℕ) → IsNf k n → bit_and (n * 2 ^ 29) (nf_place k) ≡ n * 2 ^ 29
+nf-within Absent n is = and_zero_r (n * 2 ^ 29) ∙ nothing n 29 is
+nf-within Any n is = within-bits_at n 29 3 is
+nf-within Registers n is = within-bits_at n 29 3 (registers_below n is)
+
+nf-back : (k : Nf) (n w : ℕ) → IsNf k n → bit_and w (nf_place k) ≡ n * 2 ^ 29 → nf_of k w ≡ n
+nf-back Absent n w is same = sym is
+nf-back Any n w is same = same-at _ n 29 (sym (and-bits_at w 29 3) ∙ same)
+nf-back Registers n w is same = same-at _ n 29 (sym (and-bits_at w 29 3) ∙ same)
+
+-- nf as the row of an instruction has it
+abbrev pub row_nf : Nf → ℕ → ℕ
+row_nf Absent n = 0
+row_nf Any n = 0
+row_nf Registers n = n
+
+pub row_nf-is : (k : Nf) (n : ℕ) → IsNf k n → IsRowNf k (row_nf k n)
+row_nf-is Absent n is = refl
+row_nf-is Any n is = refl
+row_nf-is Registers n is = is
+
+row-part : (k : Nf) (n w : ℕ) → bit_and w (nf_place k) ≡ n * 2 ^ 29 → bit_and w (row_place k) ≡ row_nf k n * 2 ^ 29
+row-part Absent n w same = and_zero_r w
+row-part Any n w same = and_zero_r w
+row-part Registers n w same = same
+
+abbrev instr_of : Op → (rd rs1 rs2 : ℕ) → ℤ → Bool → (nf : ℕ) → Instr
+instr_of op rd rs1 rs2 imm vm nf = record { op = op; rd = rd; rs1 = rs1; rs2 = rs2; imm = imm; vm = vm; nf = nf }
+
+same_instr : (i : Instr) (rd rs1 rs2 : ℕ) (imm : ℤ) (vm : Bool) (nf : ℕ) → rd ≡ i.rd → rs1 ≡ i.rs1 → rs2 ≡ i.rs2 → imm ≡ i.imm → vm ≡ i.vm → nf ≡ i.nf → instr_of i.op rd rs1 rs2 imm vm nf ≡ i
+same_instr i rd rs1 rs2 imm vm nf e1 e2 e3 e4 e5 e6 =
+    ap (λ x. instr_of i.op x rs1 rs2 imm vm nf) e1
+    ∙ ap (λ x. instr_of i.op i.rd x rs2 imm vm nf) e2
+    ∙ ap (λ x. instr_of i.op i.rd i.rs1 x imm vm nf) e3
+    ∙ ap (λ x. instr_of i.op i.rd i.rs1 i.rs2 x vm nf) e4
+    ∙ ap (λ x. instr_of i.op i.rd i.rs1 i.rs2 i.imm x nf) e5
+    ∙ ap (instr_of i.op i.rd i.rs1 i.rs2 i.imm i.vm) e6
+
+-- the word of fixed bits and operands has both
+pub record Holds (l : Layout) (i : Instr) (bits w : ℕ) : Type 0 where
+  pub fixed : bit_and w (fixed l) ≡ bits
+  pub row : bit_and w (row_place l.nf) ≡ row_nf l.nf i.nf * 2 ^ 29
+  pub operands : with_operands w i.op l ≡ i
+
+-- the operands' bits joined by `|`
+abbrev pub operands_or : Layout → Instr → ℕ
+operands_or l i =
+    bit_or (bit_or (bit_or (bit_or (bit_or (i.rd * 2 ^ 7) (i.rs1 * 2 ^ 15)) (i.rs2 * 2 ^ 20)) (number_bits l.number i.imm)) (vm_bits l.vm i.vm)) (i.nf * 2 ^ 29)
+
+or_sum : (x y z m n : ℕ) → bit_and x m ≡ x → bit_and y n ≡ y → bit_and m n ≡ 0 → z ≡ x → bit_or z y ≡ x + y
+or_sum x y z m n in_x in_y apart same = ap (λ u. bit_or u y) same ∙ or_disjoint x y (apart-within x y m n in_x in_y apart)
+
+pub word-joined : (l : Layout) → Fits l → (i : Instr) → HasOperands l i → (bits : ℕ) → bit_and bits (fixed l) ≡ bits → bit_or bits (operands_or l i) ≡ bits + operand_bits_of l i
+word-joined l f i h bits under =
+    let rd = i.rd * 2 ^ 7 in
+    let rs1 = i.rs1 * 2 ^ 15 in
+    let rs2 = i.rs2 * 2 ^ 20 in
+    let number = number_bits l.number i.imm in
+    let vm = vm_bits l.vm i.vm in
+    let nf = i.nf * 2 ^ 29 in
+    let in_rd = register-within l.rd 7 i.rd h.rd in
+    let in_rs1 = register-within l.rs1 15 i.rs1 h.rs1 in
+    let in_rs2 = register-within l.rs2 20 i.rs2 h.rs2 in
+    let in_number = number-within l.number i.imm in
+    let in_vm = vm-within l.vm i.vm in
+    let in_nf = nf-within l.nf i.nf h.nf in
+    let sum_rs1 = within-sum rd rs1 (rd_mask l) (rs1_mask l) in_rd in_rs1 f.rs1 in
+    let sum_rs2 = within-sum (rd + rs1) rs2 (to_rs1 l) (rs2_mask l) sum_rs1 in_rs2 f.rs2 in
+    let sum_number = within-sum (rd + rs1 + rs2) number (to_rs2 l) (number_mask l.number) sum_rs2 in_number f.number in
+    let sum_vm = within-sum (rd + rs1 + rs2 + number) vm (to_number l) (vm_mask l.vm) sum_number in_vm f.vm in
+    let sum_nf = within-sum (rd + rs1 + rs2 + number + vm) nf (to_vm l) (nf_place l.nf) sum_vm in_nf f.nf in
+    let or_rs1 = or_sum rd rs1 rd (rd_mask l) (rs1_mask l) in_rd in_rs1 f.rs1 refl in
+    let or_rs2 = or_sum (rd + rs1) rs2 _ (to_rs1 l) (rs2_mask l) sum_rs1 in_rs2 f.rs2 or_rs1 in
+    let or_number = or_sum (rd + rs1 + rs2) number _ (to_rs2 l) (number_mask l.number) sum_rs2 in_number f.number or_rs2 in
+    let or_vm = or_sum (rd + rs1 + rs2 + number) vm _ (to_number l) (vm_mask l.vm) sum_number in_vm f.vm or_number in
+    let or_nf = or_sum (rd + rs1 + rs2 + number + vm) nf _ (to_vm l) (nf_place l.nf) sum_vm in_nf f.nf or_vm in
+    ap (bit_or bits) or_nf ∙ or_disjoint bits (operand_bits_of l i) (apart-within bits (operand_bits_of l i) (fixed l) (places l) under sum_nf f.apart)
+
+pub word-holds : (l : Layout) → Fits l → (i : Instr) → HasOperands l i → (bits : ℕ) → bit_and bits (fixed l) ≡ bits → Holds l i bits (bits + operand_bits_of l i)
+word-holds l f i h bits under =
+    let rd = i.rd * 2 ^ 7 in
+    let rs1 = i.rs1 * 2 ^ 15 in
+    let rs2 = i.rs2 * 2 ^ 20 in
+    let number = number_bits l.number i.imm in
+    let vm = vm_bits l.vm i.vm in
+    let nf = i.nf * 2 ^ 29 in
+    let w = bits + operand_bits_of l i in
+    let in_rd = register-within l.rd 7 i.rd h.rd in
+    let in_rs1 = register-within l.rs1 15 i.rs1 h.rs1 in
+    let in_rs2 = register-within l.rs2 20 i.rs2 h.rs2 in
+    let in_number = number-within l.number i.imm in
+    let in_vm = vm-within l.vm i.vm in
+    let in_nf = nf-within l.nf i.nf h.nf in
+    let sum_rs1 = within-sum rd rs1 (rd_mask l) (rs1_mask l) in_rd in_rs1 f.rs1 in
+    let sum_rs2 = within-sum (rd + rs1) rs2 (to_rs1 l) (rs2_mask l) sum_rs1 in_rs2 f.rs2 in
+    let sum_number = within-sum (rd + rs1 + rs2) number (to_rs2 l) (number_mask l.number) sum_rs2 in_number f.number in
+    let sum_vm = within-sum (rd + rs1 + rs2 + number) vm (to_number l) (vm_mask l.vm) sum_number in_vm f.vm in
+    let sum_nf = within-sum (rd + rs1 + rs2 + number + vm) nf (to_vm l) (nf_place l.nf) sum_vm in_nf f.nf in
+    let all = within-sum bits (operand_bits_of l i) (fixed l) (places l) under sum_nf f.apart in
+    let at_all = halves w bits (operand_bits_of l i) (fixed l) (places l) under sum_nf f.apart all in
+    let at_nf = halves w (rd + rs1 + rs2 + number + vm) nf (to_vm l) (nf_place l.nf) sum_vm in_nf f.nf at_all.high in
+    let at_vm = halves w (rd + rs1 + rs2 + number) vm (to_number l) (vm_mask l.vm) sum_number in_vm f.vm at_nf.low in
+    let at_number = halves w (rd + rs1 + rs2) number (to_rs2 l) (number_mask l.number) sum_rs2 in_number f.number at_vm.low in
+    let at_rs2 = halves w (rd + rs1) rs2 (to_rs1 l) (rs2_mask l) sum_rs1 in_rs2 f.rs2 at_number.low in
+    let at_rs1 = halves w rd rs1 (rd_mask l) (rs1_mask l) in_rd in_rs1 f.rs1 at_rs2.low in
+    let number_is : number_of l.number w ≡ i.imm =
+    number-same l.number f.in_word _ _ (number-valid l.number f.in_word w) h.imm (sym (number-parts l.number f.in_word w) ∙ at_number.high) in
+    record {
+      fixed = at_all.low;
+      row = row-part l.nf i.nf w at_nf.high;
+      operands = same_instr i _ _ _ _ _ _ (register-back l.rd 7 i.rd w h.rd at_rs1.low) (register-back l.rs1 15 i.rs1 w h.rs1 at_rs1.high) (register-back l.rs2 20 i.rs2 w h.rs2 at_rs2.high) number_is (vm-back l.vm i.vm w h.vm at_vm.high) (nf-back l.nf i.nf w h.nf at_nf.high);
+    }

@@ -1,5 +1,5 @@
 -- Signed numbers and the numbers that they are reduced to.
-use Rattle.std.proofs.Common.{◌≡◌, ℕ, zero, suc, ◌*◌, ◌-◌, ◌%◌, ◌<◌, ◌≤◌, Bool, true, false, cond, ltb, ap, refl, arith, ℤ, pos, negsuc, neg_ℤ, ◌-ℤ◌}
+use Rattle.std.proofs.Common.{◌≡◌, ℕ, zero, suc, ◌*◌, ◌-◌, ◌%◌, ◌<◌, ◌≤◌, Bool, true, false, cond, ltb, ap, refl, arith, ℤ, pos, negsuc, neg_ℤ}
 use Rattle.std.proofs.lemmas.Int.{ints}
 use Rattle.std.proofs.lemmas.Bool.Decides.{nat_tests}
 use Rattle.std.proofs.Math.Nat.{mod-eq_of_lt}
@@ -8,10 +8,10 @@ use borrow.Author.Tests.{ltb-true, ltb-false}
 use Rattle.std.specs.Prelude.{◌<ℤ◌, ◌≤ℤ◌, int_rem}
 
 -- a number below `whole`, read as signed, and a signed number reduced, where `whole` is twice `half`
-abbrev signed_by : ℕ → ℕ → ℕ → ℤ
+abbrev pub signed_by : ℕ → ℕ → ℕ → ℤ
 signed_by half whole n = cond (ltb n half) (pos n) (negsuc (whole - 1 - n))
 
-abbrev reduced_by : ℕ → ℤ → ℕ
+abbrev pub reduced_by : ℕ → ℤ → ℕ
 reduced_by whole (pos n) = n % whole
 reduced_by whole (negsuc n) = whole - 1 - n % whole
 

@@ -1,69 +1,68 @@
--- What a word means: RISC-V Unprivileged ISA 20191213, sections 2.2 and 2.3 (formats and immediates).
-use Rattle.std.specs.Prelude.{ℕ, ◌+◌, ◌*◌, ◌^◌, ℤ, pos, true, Option, option_map}
+-- What a word means: RISC-V Unprivileged ISA 20191213, sections 2.2 and 2.3 (formats and immediates), and RISC-V "V" 1.0,
+-- sections 6, 7.2 and 10.1.
+use Rattle.std.specs.Prelude.{ℕ, ◌+◌, ◌*◌, ◌^◌, ℤ, pos, Bool, true, false, if◌then◌else◌, ◌==◌, Option, option_map}
 use Rattle.vx_base.specs.Numbers.{field, signed}
+use Rattle.vx_rows.specs.Layouts.{layout_of}
 use Rattle.vx_rows.specs.Table.{row_of}
 use Rattle.vx_rows.specs.declared.op.Op.{Op}
+use Rattle.vx_rows.specs.declared.row.Layout.{Layout}
+use Rattle.vx_rows.specs.declared.row.Nf.{Nf}
+use Rattle.vx_rows.specs.declared.row.Nf.TheVariants as nf
+use Rattle.vx_rows.specs.declared.row.Number.{Number}
+use Rattle.vx_rows.specs.declared.row.Number.TheVariants.{Absent, Unsigned, Signed, FormatS, FormatB, FormatJ}
 use Rattle.vx_rows.specs.declared.row.Row.{Row}
-use Rattle.vx_rows.specs.declared.row.Shape.{Shape}
-use Rattle.vx_rows.specs.declared.row.Shape.TheVariants.{Registers, Immediate, Shift, ShiftWord, Load, Store, Branch, Upper, Jump, Fence, Csr, CsrNumber, Fixed}
+use Rattle.vx_rows.specs.declared.row.Vm.{Vm}
+use Rattle.vx_rows.specs.declared.row.Vm.TheVariants as vm
 use Rattle.vx_decode.specs.declared.instr.Instr.{Instr}
 
--- the register numbers of a word
-abbrev pub rd_of : ℕ → ℕ
-rd_of word = field word 7 5
+-- the number of a register, whose field begins at `low`, where the layout has one there
+abbrev pub register_at : (low : ℕ) → Bool → (word : ℕ) → ℕ
+register_at low has word = if has then field word low 5 else 0
 
-abbrev pub rs1_of : ℕ → ℕ
-rs1_of word = field word 15 5
-
-abbrev pub rs2_of : ℕ → ℕ
-rs2_of word = field word 20 5
-
--- the immediates of the formats I, S, B, U and J
-abbrev pub immediate_i : ℕ → ℤ
-immediate_i word = signed 12 (field word 20 12)
-
+-- the immediates of the formats S, B and J
 abbrev pub immediate_s : ℕ → ℤ
 immediate_s word = signed 12 (field word 25 7 * 2 ^ 5 + field word 7 5)
 
 abbrev pub immediate_b : ℕ → ℤ
 immediate_b word = signed 13 (field word 31 1 * 2 ^ 12 + field word 7 1 * 2 ^ 11 + field word 25 6 * 2 ^ 5 + field word 8 4 * 2)
 
-abbrev pub immediate_u : ℕ → ℤ
-immediate_u word = pos (field word 12 20)
-
 abbrev pub immediate_j : ℕ → ℤ
 immediate_j word = signed 21 (field word 31 1 * 2 ^ 20 + field word 12 8 * 2 ^ 12 + field word 20 1 * 2 ^ 11 + field word 21 10 * 2)
 
--- the amounts of the shifts by a number, and the numbers of 12 bits with no sign
-abbrev pub amount_of : ℕ → ℤ
-amount_of word = pos (field word 20 6)
+-- the number, which is 0 where the layout has none
+abbrev pub number_of : Number → (word : ℕ) → ℤ
+number_of Absent word = pos 0
+number_of (Unsigned low count) word = pos (field word low count)
+number_of (Signed low count) word = signed count (field word low count)
+number_of FormatS word = immediate_s word
+number_of FormatB word = immediate_b word
+number_of FormatJ word = immediate_j word
 
-abbrev pub word_amount_of : ℕ → ℤ
-word_amount_of word = pos (field word 20 5)
+-- whether the row isn't masked
+abbrev pub vm_of : Vm → (word : ℕ) → Bool
+vm_of vm.Any word = field word 25 1 == 1
+vm_of vm.Zero word = false
+vm_of vm.One word = true
 
-abbrev pub number_of : ℕ → ℤ
-number_of word = pos (field word 20 12)
+-- one less than the number of fields or registers, which is 0 where the layout has none
+abbrev pub nf_of : Nf → (word : ℕ) → ℕ
+nf_of nf.Absent word = 0
+nf_of nf.Any word = field word 29 3
+nf_of nf.Registers word = field word 29 3
 
--- an operation with these operands, and no others
-abbrev pub scalar_instr : Op → (rd rs1 rs2 : ℕ) → ℤ → Instr
-scalar_instr op rd rs1 rs2 imm = record { op = op; rd = rd; rs1 = rs1; rs2 = rs2; imm = imm; vm = true; nf = 0 }
-
--- an operation with the operands that a word holds in this shape
-abbrev pub with_operands : ℕ → Op → Shape → Instr
-with_operands word op Registers = scalar_instr op (rd_of word) (rs1_of word) (rs2_of word) (pos 0)
-with_operands word op Immediate = scalar_instr op (rd_of word) (rs1_of word) 0 (immediate_i word)
-with_operands word op Shift = scalar_instr op (rd_of word) (rs1_of word) 0 (amount_of word)
-with_operands word op ShiftWord = scalar_instr op (rd_of word) (rs1_of word) 0 (word_amount_of word)
-with_operands word op Load = scalar_instr op (rd_of word) (rs1_of word) 0 (immediate_i word)
-with_operands word op Store = scalar_instr op 0 (rs1_of word) (rs2_of word) (immediate_s word)
-with_operands word op Branch = scalar_instr op 0 (rs1_of word) (rs2_of word) (immediate_b word)
-with_operands word op Upper = scalar_instr op (rd_of word) 0 0 (immediate_u word)
-with_operands word op Jump = scalar_instr op (rd_of word) 0 0 (immediate_j word)
-with_operands word op Fence = scalar_instr op (rd_of word) (rs1_of word) 0 (number_of word)
-with_operands word op Csr = scalar_instr op (rd_of word) (rs1_of word) 0 (number_of word)
-with_operands word op CsrNumber = scalar_instr op (rd_of word) (rs1_of word) 0 (number_of word)
-with_operands word op Fixed = scalar_instr op 0 0 0 (pos 0)
+-- an operation with the operands that a word holds in this layout
+abbrev pub with_operands : ℕ → Op → Layout → Instr
+with_operands word op layout =
+    record {
+      op = op;
+      rd = register_at 7 layout.rd word;
+      rs1 = register_at 15 layout.rs1 word;
+      rs2 = register_at 20 layout.rs2 word;
+      imm = number_of layout.number word;
+      vm = vm_of layout.vm word;
+      nf = nf_of layout.nf word;
+    }
 
 -- the instruction that a word means, where it means one
 abbrev pub decoded : ℕ → Option Instr
-decoded word = option_map (λ (r : Row). with_operands word r.op r.shape) (row_of word)
+decoded word = option_map (λ (r : Row). with_operands word r.op (layout_of r.shape)) (row_of word)

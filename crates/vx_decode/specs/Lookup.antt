@@ -1,5 +1,5 @@
 -- A row by some of its fixed bits. This project's own.
-use Rattle.std.specs.Prelude.{ℕ, Bool, ◌==◌, bit_and, Option, option_map, filter, find}
+use Rattle.std.specs.Prelude.{ℕ, Bool, ◌==◌, bit_and, List, Option, option_map, filter, find}
 use Rattle.vx_rows.specs.Table.{row_of, table}
 use Rattle.vx_rows.specs.declared.op.Op.{Op}
 use Rattle.vx_rows.specs.declared.row.Row.{Row}
@@ -12,6 +12,10 @@ operation_of word = option_map (λ (r : Row). r.op) (row_of word)
 abbrev pub may_fit : ℕ → ℕ → Row → Bool
 may_fit k bits r = bit_and r.value k == bit_and bits r.mask
 
--- the operation of the first of those rows whose fixed bits are `value`
-abbrev pub operation_among : (k bits value : ℕ) → Option Op
-operation_among k bits value = option_map (λ (r : Row). r.op) (find (λ (r : Row). value == r.value) (filter (may_fit k bits) table))
+-- the rows of this mask among those
+abbrev pub rows_among : (k bits mask : ℕ) → List Row
+rows_among k bits mask = filter (λ (r : Row). r.mask == mask) (filter (may_fit k bits) table)
+
+-- the operation of the first of them whose fixed bits are `value`
+abbrev pub operation_among : (k bits mask value : ℕ) → Option Op
+operation_among k bits mask value = option_map (λ (r : Row). r.op) (find (λ (r : Row). value == r.value) (rows_among k bits mask))

@@ -1,13 +1,14 @@
-ghost use Rattle.std.specs.Prelude.{◌≡◌, IfSome};
-ghost use Rattle.vx_decode.specs.Decoded.{decoded, with_operands};
+ghost use Rattle.std.specs.Prelude.{◌≡◌, IfSome, ◌<◌, ℕ, Some};
+ghost use Rattle.vx_decode.specs.Decoded.{decoded, with_operands, register_at, vm_of, nf_of};
 ghost use Rattle.vx_decode.specs.Encoded.{IsValid};
+ghost use Rattle.vx_rows.specs.Layouts.{layout_of};
 ghost use Rattle.vx_rows.specs.Table.{shape_of};
 
 use crate::field::bits;
-use crate::immediate::{number_b, number_i, number_j, number_s};
+use crate::immediate::number;
 use crate::instr::Instr;
 use crate::operation::operation;
-use vx_rows::{Op, Shape};
+use vx_rows::{Nf, Op, Vm};
 
 /// The instruction that a word means; `None` exactly where no row has its fixed bits. Each of its operands lies in its
 /// range, and those that its shape lacks are 0.
@@ -19,75 +20,53 @@ pub fn decode(word: u32) -> Option<Instr>
     Some(operands(word, op))
 }
 
+/// The instruction of a word is a valid one.
+pub fn decoded_is_valid()
+    ensures { (word : ℕ) (i : Instr) → decoded word ≡ Some i → IsValid i }
+{}
+
 /// The operation with the operands that the word holds for it.
 fn operands(word: u32, op: Op) -> Instr
-    ensures { result ≡ with_operands word op (shape_of op) }
+    ensures { result ≡ with_operands word op (layout_of (shape_of op)) }
 {
-    let none = Instr {
+    let shape = op.shape();
+    let layout = shape.layout();
+    Instr {
         op,
-        rd: 0,
-        rs1: 0,
-        rs2: 0,
-        imm: 0,
-        vm: true,
-        nf: 0,
-    };
-    let rd = bits(word, 7, 5) as u8;
-    let rs1 = bits(word, 15, 5) as u8;
-    let rs2 = bits(word, 20, 5) as u8;
-    match op.shape() {
-        Shape::Registers => Instr {
-            rd,
-            rs1,
-            rs2,
-            ..none
-        },
-        Shape::Immediate | Shape::Load => Instr {
-            rd,
-            rs1,
-            imm: number_i(word),
-            ..none
-        },
-        Shape::Shift => Instr {
-            rd,
-            rs1,
-            imm: i64::from(bits(word, 20, 6)),
-            ..none
-        },
-        Shape::ShiftWord => Instr {
-            rd,
-            rs1,
-            imm: i64::from(bits(word, 20, 5)),
-            ..none
-        },
-        Shape::Store => Instr {
-            rs1,
-            rs2,
-            imm: number_s(word),
-            ..none
-        },
-        Shape::Branch => Instr {
-            rs1,
-            rs2,
-            imm: number_b(word),
-            ..none
-        },
-        Shape::Upper => Instr {
-            rd,
-            imm: i64::from(bits(word, 12, 20)),
-            ..none
-        },
-        Shape::Jump => Instr {
-            rd,
-            imm: number_j(word),
-            ..none
-        },
-        Shape::Fence | Shape::Csr | Shape::CsrNumber => Instr {
-            rd,
-            rs1,
-            imm: i64::from(bits(word, 20, 12)),
-            ..none
-        },
-        Shape::Fixed => none,
+        rd: register(word, 7, layout.rd),
+        rs1: register(word, 15, layout.rs1),
+        rs2: register(word, 20, layout.rs2),
+        imm: number(word, shape),
+        vm: mask(word, layout.vm),
+        nf: fields(word, layout.nf),
+    }
+}
+
+/// The number of a register whose field begins at `low`, where there is one.
+fn register(word: u32, low: u32, has: bool) -> u8
+    requires { low < 32 }
+    ensures { result ≡ register_at low has word }
+{
+    if has { bits(word, low, 5) as u8 } else { 0 }
+}
+
+/// Whether the row isn't masked.
+fn mask(word: u32, vm: Vm) -> bool
+    ensures { result ≡ vm_of vm word }
+{
+    match vm {
+        Vm::Any => bits(word, 25, 1) == 1,
+        Vm::Zero => false,
+        Vm::One => true,
+    }
+}
+
+/// One less than the number of fields or registers.
+fn fields(word: u32, nf: Nf) -> u8
+    ensures { result ≡ nf_of nf word }
+{
+    match nf {
+        Nf::Absent => 0,
+        Nf::Any | Nf::Registers => bits(word, 29, 3) as u8,
     }
 }

@@ -1,44 +1,51 @@
 ghost use Rattle.std.specs.Prelude.{◌≡◌, ℕ, ◌+◌, ◌^◌, ◌<◌, Some, pos, neg_ℤ, ◌<ℤ◌, ◌≤ℤ◌};
 ghost use Rattle.vx_base.specs.Numbers.{reduced};
 ghost use Rattle.vx_decode.specs.Decoded.{decoded};
-ghost use Rattle.vx_decode.specs.Encoded.{IsValid, HasOperands, operand_bits_of, bits_s, bits_b, bits_j};
-ghost use Rattle.vx_rows.specs.Table.{mask_of};
+ghost use Rattle.vx_decode.specs.Encoded.{IsValid, IsNumber, word_of, number_bits, vm_bits, bits_s, bits_b, bits_j};
+ghost use Rattle.vx_rows.specs.Layouts.{layout_of};
 
 use crate::field::bits;
 use crate::instr::Instr;
-use vx_rows::Shape;
+use vx_rows::{Number, Shape, Vm, fits_one_at_most, has_its_rows};
 
-/// The word of an instruction. Each operand lies in its range; those that its shape lacks are 0, and `vm` is true.
+/// The word of an instruction. Each operand lies in its range; those that its shape lacks are 0, or true for `vm`.
 pub fn encode(i: &Instr) -> u32
     requires { IsValid i.now }
+    ensures value { result ≡ word_of i.now }
     ensures decodes { decoded result ≡ Some i.now }
     ensures only { (word : ℕ) → word < 2 ^ 32 → decoded word ≡ Some i.now → word ≡ result }
 {
-    i.op.value() + operand_bits(i.op.shape(), i)
+    fits_one_at_most();
+    has_its_rows();
+    let shape = i.op.shape();
+    let registers = u32::from(i.rd) << 7 | u32::from(i.rs1) << 15 | u32::from(i.rs2) << 20;
+    let unmasked = mask_bits(shape.layout().vm, i.vm);
+    i.op.bits() | (registers | number(shape, i) | unmasked | u32::from(i.nf) << 29)
 }
 
-/// The bits of an instruction's operands.
-fn operand_bits(shape: Shape, i: &Instr) -> u32
-    requires { HasOperands shape i.now }
-    ensures value { result ≡ operand_bits_of shape i.now }
-    ensures room { result + mask_of shape < 2 ^ 32 }
+/// Bit 25, where it isn't fixed.
+fn mask_bits(vm: Vm, is_unmasked: bool) -> u32
+    ensures { result ≡ vm_bits vm is_unmasked }
 {
-    let rd = u32::from(i.rd) * 128;
-    let rs1 = u32::from(i.rs1) * 32_768;
-    let rs2 = u32::from(i.rs2) * 1_048_576;
-    match shape {
-        Shape::Registers => rd + rs1 + rs2,
-        Shape::Immediate | Shape::Load => rd + rs1 + reduced_number(12, i.imm) * 1_048_576,
-        Shape::Shift => rd + rs1 + reduced_number(6, i.imm) * 1_048_576,
-        Shape::ShiftWord => rd + rs1 + reduced_number(5, i.imm) * 1_048_576,
-        Shape::Store => rs1 + rs2 + store_bits(reduced_number(12, i.imm)),
-        Shape::Branch => rs1 + rs2 + branch_bits(reduced_number(13, i.imm)),
-        Shape::Upper => rd + reduced_number(20, i.imm) * 4096,
-        Shape::Jump => rd + jump_bits(reduced_number(21, i.imm)),
-        Shape::Fence | Shape::Csr | Shape::CsrNumber => {
-            rd + rs1 + reduced_number(12, i.imm) * 1_048_576
-        }
-        Shape::Fixed => 0,
+    match vm {
+        Vm::Any => u32::from(is_unmasked) << 25,
+        Vm::Zero | Vm::One => 0,
+    }
+}
+
+/// The bits of the number of an instruction of this shape.
+fn number(shape: Shape, i: &Instr) -> u32
+    requires { IsNumber (layout_of shape).number i.now.imm }
+    ensures { result ≡ number_bits (layout_of shape).number i.now.imm }
+{
+    let z = i.imm;
+    match shape.layout().number {
+        Number::Absent => 0,
+        Number::Unsigned(low, count) => reduced_number(count, z) << low,
+        Number::Signed(low, count) => reduced_number(count, z) << low,
+        Number::FormatS => store_bits(reduced_number(12, z)),
+        Number::FormatB => branch_bits(reduced_number(13, z)),
+        Number::FormatJ => jump_bits(reduced_number(21, z)),
     }
 }
 

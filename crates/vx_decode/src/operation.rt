@@ -1,7 +1,9 @@
 ghost use Rattle.std.specs.Prelude.{◌≡◌, bit_and};
 ghost use Rattle.vx_decode.specs.Lookup.{operation_of, operation_among};
 
-use vx_rows::{Op, ScalarOp};
+use crate::memory::{vector_loads, vector_stores};
+use crate::vector::vector;
+use vx_rows::{Op, ScalarOp, fits_one_at_most};
 
 /// The operation of the row whose fixed bits the word has. It goes by the word's opcode first.
 pub(crate) fn operation(word: u32) -> Option<Op>
@@ -21,6 +23,9 @@ pub(crate) fn operation(word: u32) -> Option<Op>
         0x3b => with_registers_word(word & 0xfe00_707f),
         0x0f => fence(word & 0x707f),
         0x73 => system(word),
+        0x57 => vector(word),
+        0x07 => vector_loads(word),
+        0x27 => vector_stores(word),
         _ => None,
     }
 }
@@ -28,7 +33,7 @@ pub(crate) fn operation(word: u32) -> Option<Op>
 /// The jump to a register.
 #[tactic(auto, unfolding(vx_rows::specs::Table::operations))]
 fn jump_register(fixed: u32) -> Option<Op>
-    ensures { result ≡ operation_among 0x7f 0x67 fixed }
+    ensures { result ≡ operation_among 0x7f 0x67 0x707f fixed }
 {
     let op = match fixed {
         0x0067 => ScalarOp::Jalr,
@@ -40,7 +45,7 @@ fn jump_register(fixed: u32) -> Option<Op>
 /// The branches.
 #[tactic(auto, unfolding(vx_rows::specs::Table::operations))]
 fn branch(fixed: u32) -> Option<Op>
-    ensures { result ≡ operation_among 0x7f 0x63 fixed }
+    ensures { result ≡ operation_among 0x7f 0x63 0x707f fixed }
 {
     let op = match fixed {
         0x0063 => ScalarOp::Beq,
@@ -57,7 +62,7 @@ fn branch(fixed: u32) -> Option<Op>
 /// The loads.
 #[tactic(auto, unfolding(vx_rows::specs::Table::operations))]
 fn load(fixed: u32) -> Option<Op>
-    ensures { result ≡ operation_among 0x7f 0x03 fixed }
+    ensures { result ≡ operation_among 0x7f 0x03 0x707f fixed }
 {
     let op = match fixed {
         0x0003 => ScalarOp::Lb,
@@ -75,7 +80,7 @@ fn load(fixed: u32) -> Option<Op>
 /// The stores.
 #[tactic(auto, unfolding(vx_rows::specs::Table::operations))]
 fn store(fixed: u32) -> Option<Op>
-    ensures { result ≡ operation_among 0x7f 0x23 fixed }
+    ensures { result ≡ operation_among 0x7f 0x23 0x707f fixed }
 {
     let op = match fixed {
         0x0023 => ScalarOp::Sb,
@@ -92,38 +97,37 @@ fn with_number(word: u32) -> Option<Op>
     requires { bit_and word 0x7f ≡ 0x13 }
     ensures { result ≡ operation_of word }
 {
-    let op = match word & 0x707f {
+    fits_one_at_most();
+    if let Some(op) = numbers(word & 0x0000_707f) {
+        return Some(op);
+    }
+    shifts(word & 0xfc00_707f)
+}
+
+/// Those on a number of 12 bits.
+#[tactic(auto, unfolding(vx_rows::specs::Table::operations))]
+fn numbers(fixed: u32) -> Option<Op>
+    ensures { result ≡ operation_among 0x7f 0x13 0x707f fixed }
+{
+    let op = match fixed {
         0x0013 => ScalarOp::Addi,
         0x2013 => ScalarOp::Slti,
         0x3013 => ScalarOp::Sltiu,
         0x4013 => ScalarOp::Xori,
         0x6013 => ScalarOp::Ori,
         0x7013 => ScalarOp::Andi,
-        0x1013 => return shift_left(word & 0xfc00_707f),
-        0x5013 => return shift_right(word & 0xfc00_707f),
         _ => return None,
     };
     Some(Op::Scalar(op))
 }
 
-/// The shift to the left by a number.
+/// The shifts by a number.
 #[tactic(auto, unfolding(vx_rows::specs::Table::operations))]
-fn shift_left(fixed: u32) -> Option<Op>
-    ensures { result ≡ operation_among 0x707f 0x1013 fixed }
+fn shifts(fixed: u32) -> Option<Op>
+    ensures { result ≡ operation_among 0x7f 0x13 0xfc00707f fixed }
 {
     let op = match fixed {
         0x1013 => ScalarOp::Slli,
-        _ => return None,
-    };
-    Some(Op::Scalar(op))
-}
-
-/// The shifts to the right by a number.
-#[tactic(auto, unfolding(vx_rows::specs::Table::operations))]
-fn shift_right(fixed: u32) -> Option<Op>
-    ensures { result ≡ operation_among 0x707f 0x5013 fixed }
-{
-    let op = match fixed {
         0x5013 => ScalarOp::Srli,
         0x4000_5013 => ScalarOp::Srai,
         _ => return None,
@@ -136,33 +140,32 @@ fn with_number_word(word: u32) -> Option<Op>
     requires { bit_and word 0x7f ≡ 0x1b }
     ensures { result ≡ operation_of word }
 {
-    let op = match word & 0x707f {
+    fits_one_at_most();
+    if let Some(op) = numbers_word(word & 0x0000_707f) {
+        return Some(op);
+    }
+    shifts_word(word & 0xfe00_707f)
+}
+
+/// That on a number of 12 bits, at 32 bits.
+#[tactic(auto, unfolding(vx_rows::specs::Table::operations))]
+fn numbers_word(fixed: u32) -> Option<Op>
+    ensures { result ≡ operation_among 0x7f 0x1b 0x707f fixed }
+{
+    let op = match fixed {
         0x001b => ScalarOp::Addiw,
-        0x101b => return shift_left_word(word & 0xfe00_707f),
-        0x501b => return shift_right_word(word & 0xfe00_707f),
         _ => return None,
     };
     Some(Op::Scalar(op))
 }
 
-/// The shift to the left by a number, at 32 bits.
+/// The shifts by a number, at 32 bits.
 #[tactic(auto, unfolding(vx_rows::specs::Table::operations))]
-fn shift_left_word(fixed: u32) -> Option<Op>
-    ensures { result ≡ operation_among 0x707f 0x101b fixed }
+fn shifts_word(fixed: u32) -> Option<Op>
+    ensures { result ≡ operation_among 0x7f 0x1b 0xfe00707f fixed }
 {
     let op = match fixed {
         0x101b => ScalarOp::Slliw,
-        _ => return None,
-    };
-    Some(Op::Scalar(op))
-}
-
-/// The shifts to the right by a number, at 32 bits.
-#[tactic(auto, unfolding(vx_rows::specs::Table::operations))]
-fn shift_right_word(fixed: u32) -> Option<Op>
-    ensures { result ≡ operation_among 0x707f 0x501b fixed }
-{
-    let op = match fixed {
         0x501b => ScalarOp::Srliw,
         0x4000_501b => ScalarOp::Sraiw,
         _ => return None,
@@ -173,7 +176,7 @@ fn shift_right_word(fixed: u32) -> Option<Op>
 /// The operations on two registers.
 #[tactic(auto, unfolding(vx_rows::specs::Table::operations))]
 fn with_registers(fixed: u32) -> Option<Op>
-    ensures { result ≡ operation_among 0x7f 0x33 fixed }
+    ensures { result ≡ operation_among 0x7f 0x33 0xfe00707f fixed }
 {
     let op = match fixed {
         0x0033 => ScalarOp::Add,
@@ -202,7 +205,7 @@ fn with_registers(fixed: u32) -> Option<Op>
 /// The operations on two registers, at 32 bits.
 #[tactic(auto, unfolding(vx_rows::specs::Table::operations))]
 fn with_registers_word(fixed: u32) -> Option<Op>
-    ensures { result ≡ operation_among 0x7f 0x3b fixed }
+    ensures { result ≡ operation_among 0x7f 0x3b 0xfe00707f fixed }
 {
     let op = match fixed {
         0x003b => ScalarOp::Addw,
@@ -223,7 +226,7 @@ fn with_registers_word(fixed: u32) -> Option<Op>
 /// The fence.
 #[tactic(auto, unfolding(vx_rows::specs::Table::operations))]
 fn fence(fixed: u32) -> Option<Op>
-    ensures { result ≡ operation_among 0x7f 0x0f fixed }
+    ensures { result ≡ operation_among 0x7f 0x0f 0x707f fixed }
 {
     let op = match fixed {
         0x000f => ScalarOp::Fence,
@@ -237,8 +240,19 @@ fn system(word: u32) -> Option<Op>
     requires { bit_and word 0x7f ≡ 0x73 }
     ensures { result ≡ operation_of word }
 {
-    let op = match word & 0x707f {
-        0x0073 => return environment(word),
+    fits_one_at_most();
+    if let Some(op) = controls(word & 0x0000_707f) {
+        return Some(op);
+    }
+    environment(word & 0xffff_ffff)
+}
+
+/// The operations on control registers.
+#[tactic(auto, unfolding(vx_rows::specs::Table::operations))]
+fn controls(fixed: u32) -> Option<Op>
+    ensures { result ≡ operation_among 0x7f 0x73 0x707f fixed }
+{
+    let op = match fixed {
         0x1073 => ScalarOp::Csrrw,
         0x2073 => ScalarOp::Csrrs,
         0x3073 => ScalarOp::Csrrc,
@@ -253,7 +267,7 @@ fn system(word: u32) -> Option<Op>
 /// The call of the environment and the breakpoint.
 #[tactic(auto, unfolding(vx_rows::specs::Table::operations))]
 fn environment(fixed: u32) -> Option<Op>
-    ensures { result ≡ operation_among 0x707f 0x73 fixed }
+    ensures { result ≡ operation_among 0x7f 0x73 0xffffffff fixed }
 {
     let op = match fixed {
         0x0073 => ScalarOp::Ecall,

@@ -10,7 +10,7 @@ use Rattle.vx_image.specs.Pages.{Image}
 use Rattle.vx_flat.specs.Scalar.{effect}
 use Rattle.vx_flat.specs.Run.{flat, state_after, IsPrefixOf}
 use Rattle.vx_flat.specs.State.{Flat}
-use Rattle.vx_flat.specs.Step.{Outcome, step, performed, performed_as, affected, upcoming}
+use Rattle.vx_flat.specs.Step.{Outcome, step, performed, performed_as, affect, affected, upcoming}
 use Rattle.vx_flat.specs.Step.Outcome.{Next, Exited, Faulted}
 use Rattle.vx_flat.specs.declared.effect.Effect.{Effect}
 use Rattle.vx_flat.specs.declared.effect.Effect.TheVariants as effect
@@ -41,13 +41,25 @@ Keeps-affected s rd (effect.Value value pc) = IsPrefixOf-refl s.output
 Keeps-affected s rd (effect.Next pc) = IsPrefixOf-refl s.output
 Keeps-affected s rd (effect.Misaligned target) = tt
 
+Keeps-affect : (s : Flat) (i : Instr) → Keeps s.output (affect s i)
+Keeps-affect s i = Keeps-affected s i.rd (effect i s.x s.pc)
+
 Keeps-performed_as : (c : Class) (s : Flat) (i : Instr) → Keeps s.output (performed_as c s i)
+Keeps-performed_as class.Arithmetic s i = Keeps-affect s i
+Keeps-performed_as class.Multiply s i = Keeps-affect s i
+Keeps-performed_as class.Divide s i = Keeps-affect s i
+Keeps-performed_as class.Jump s i = Keeps-affect s i
+Keeps-performed_as class.Branch s i = Keeps-affect s i
 Keeps-performed_as class.Load s i = search (Keeps-if, IsPrefixOf-refl)
 Keeps-performed_as class.Store s i = search (Keeps-if, IsPrefixOf-refl)
+Keeps-performed_as class.Fence s i = Keeps-affect s i
 Keeps-performed_as class.Ecall s i = search (Keeps-if, IsPrefixOf-append)
 Keeps-performed_as class.Ebreak s i = tt
 Keeps-performed_as class.Csr s i = tt
-Keeps-performed_as other s i = Keeps-affected s i.rd (effect i s.x s.pc)
+Keeps-performed_as class.Set s i = tt
+Keeps-performed_as (class.VectorArithmetic family) s i = tt
+Keeps-performed_as (class.VectorLoad addressing width) s i = tt
+Keeps-performed_as (class.VectorStore addressing width) s i = tt
 
 Keeps-performed : (s : Flat) (u : Upcoming) → Keeps s.output (performed s u)
 unfolding performed

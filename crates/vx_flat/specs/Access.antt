@@ -2,31 +2,37 @@
 use Rattle.std.specs.Prelude.{ℕ, List, slice_index}
 use Rattle.vx_base.specs.Numbers.{reduced}
 use Rattle.vx_bits.specs.Arithmetic.{sum_at}
-use Rattle.vx_bits.specs.Width.{signed_at}
 use Rattle.vx_decode.specs.declared.instr.Instr.{Instr}
 use Rattle.vx_rows.specs.declared.op.Op.{Op}
-use Rattle.vx_rows.specs.declared.op.Op.TheVariants.{Scalar}
-use Rattle.vx_rows.specs.declared.op.ScalarOp.TheVariants.{Lb, Lh, Lw, Ld, Lhu, Lwu, Sh, Sw, Sd}
+use Rattle.vx_flat.specs.Scalar.{Work, work}
+use Rattle.vx_flat.specs.Scalar.Work.{Acts, Loads, Stores, Asks, Breaks, Controls, Vectors}
 
 -- the address, of the registers
 abbrev pub access_address : Instr → (x : List ℕ) → ℕ
 access_address i x = sum_at 64 (slice_index x i.rs1) (reduced 64 i.imm)
 
 -- how many bytes a load or a store moves
-abbrev pub access_width : Op → ℕ
-access_width (Scalar Lh) = 2
-access_width (Scalar Lhu) = 2
-access_width (Scalar Sh) = 2
-access_width (Scalar Lw) = 4
-access_width (Scalar Lwu) = 4
-access_width (Scalar Sw) = 4
-access_width (Scalar Ld) = 8
-access_width (Scalar Sd) = 8
-access_width op = 1
+abbrev pub width_of : Work → ℕ
+width_of (Loads width value) = width
+width_of (Stores width) = width
+width_of (Acts effect) = 1
+width_of Asks = 1
+width_of Breaks = 1
+width_of Controls = 1
+width_of Vectors = 1
 
--- the value that a load puts into rd, of the number n that its bytes are: sign-extended, or n itself
+abbrev pub access_width : Op → ℕ
+access_width op = width_of (work op 0 0 0 0)
+
+-- the value that a load puts into rd, of the number n that its bytes are
+abbrev pub value_of : Work → (n : ℕ) → ℕ
+value_of (Loads width value) n = value n
+value_of (Stores width) n = n
+value_of (Acts effect) n = n
+value_of Asks n = n
+value_of Breaks n = n
+value_of Controls n = n
+value_of Vectors n = n
+
 abbrev pub loaded : Op → (n : ℕ) → ℕ
-loaded (Scalar Lb) n = reduced 64 (signed_at 8 n)
-loaded (Scalar Lh) n = reduced 64 (signed_at 16 n)
-loaded (Scalar Lw) n = reduced 64 (signed_at 32 n)
-loaded op n = n
+loaded op n = value_of (work op 0 0 0 0) n

@@ -1,16 +1,14 @@
--- What the rows of RV64IM that touch no memory do: RISC-V Unprivileged ISA 20191213, chapters 2 and 5 (RV32I and RV64I) and
--- 7 (M). In what follows a and b are the numbers in rs1 and rs2, and n is the immediate, each a number of 64 bits. The
+-- What the operations of RV64IM do: RISC-V Unprivileged ISA 20191213, chapters 2 and 5 (RV32I and RV64I) and 7 (M). In what follows a and b are the numbers in rs1 and rs2, and n is the immediate, each a number of 64 bits. The
 -- rows whose names end in w compute at 32 bits, and sign-extend what they compute.
-use Rattle.std.specs.Prelude.{ℕ, ◌+◌, ◌-◌, ◌*◌, ◌%◌, ◌^◌, Bool, false, not, ◌==◌, nat_lt, int_lt, bit_and, bit_or, bit_xor, List, if◌then◌else◌, slice_index}
+use Rattle.std.specs.Prelude.{ℕ, ◌+◌, ◌-◌, ◌*◌, ◌%◌, ◌^◌, Bool, not, ◌==◌, nat_lt, int_lt, bit_and, bit_or, bit_xor, List, if◌then◌else◌, slice_index}
 use Rattle.vx_base.specs.Numbers.{reduced, signed}
 use Rattle.vx_bits.specs.Arithmetic.{sum_at, difference_at, product_at, signed_high_at, unsigned_high_at, mixed_high_at, signed_quotient_at, unsigned_quotient_at, signed_remainder_at, unsigned_remainder_at, shifted_left_at, shifted_right_at, sign_shifted_right_at}
+use Rattle.vx_bits.specs.Width.{signed_at}
 use Rattle.vx_decode.specs.declared.instr.Instr.{Instr}
-use Rattle.vx_rows.specs.Table.{class_of}
 use Rattle.vx_rows.specs.declared.op.Op.{Op}
-use Rattle.vx_rows.specs.declared.op.Op.TheVariants.{Scalar}
-use Rattle.vx_rows.specs.declared.op.ScalarOp.TheVariants.{Lui, Auipc, Jalr, Beq, Bne, Blt, Bge, Bltu, Bgeu, Addi, Slti, Sltiu, Xori, Ori, Andi, Slli, Srli, Srai, Addiw, Slliw, Srliw, Sraiw, Add, Sub, Sll, Slt, Sltu, Xor, Srl, Sra, Or, And, Mul, Mulh, Mulhsu, Mulhu, Div, Divu, Rem, Remu, Addw, Subw, Sllw, Srlw, Sraw, Mulw, Divw, Divuw, Remw, Remuw}
-use Rattle.vx_rows.specs.declared.row.Class.{Class}
-use Rattle.vx_rows.specs.declared.row.Class.TheVariants as class
+use Rattle.vx_rows.specs.declared.op.Op.TheVariants.{Scalar, Set, Elem, Widen, Fixed, Mask, Perm, Memory}
+use Rattle.vx_rows.specs.declared.op.ScalarOp.{ScalarOp}
+use Rattle.vx_rows.specs.declared.op.ScalarOp.TheVariants.{Lui, Auipc, Jal, Jalr, Beq, Bne, Blt, Bge, Bltu, Bgeu, Lb, Lh, Lw, Ld, Lbu, Lhu, Lwu, Sb, Sh, Sw, Sd, Addi, Slti, Sltiu, Xori, Ori, Andi, Slli, Srli, Srai, Addiw, Slliw, Srliw, Sraiw, Add, Sub, Sll, Slt, Sltu, Xor, Srl, Sra, Or, And, Mul, Mulh, Mulhsu, Mulhu, Div, Divu, Rem, Remu, Addw, Subw, Sllw, Srlw, Sraw, Mulw, Divw, Divuw, Remw, Remuw, Fence, Ecall, Ebreak, Csrrw, Csrrs, Csrrc, Csrrwi, Csrrsi, Csrrci}
 use Rattle.vx_flat.specs.declared.effect.Effect.{Effect}
 use Rattle.vx_flat.specs.declared.effect.Effect.TheVariants.{Value, Next, Misaligned}
 
@@ -34,98 +32,153 @@ is_less a b = int_lt (signed 64 a) (signed 64 b)
 abbrev pub truth : Bool → ℕ
 truth holds = if holds then 1 else 0
 
--- the value that a row of class Arithmetic puts into rd
-abbrev pub computed : Op → (pc a b n : ℕ) → ℕ
-computed (Scalar Lui) pc a b n = upper n
-computed (Scalar Auipc) pc a b n = sum_at 64 pc (upper n)
-computed (Scalar Addi) pc a b n = sum_at 64 a n
-computed (Scalar Slti) pc a b n = truth (is_less a n)
-computed (Scalar Sltiu) pc a b n = truth (nat_lt a n)
-computed (Scalar Xori) pc a b n = bit_xor a n
-computed (Scalar Ori) pc a b n = bit_or a n
-computed (Scalar Andi) pc a b n = bit_and a n
-computed (Scalar Slli) pc a b n = shifted_left_at 64 a n
-computed (Scalar Srli) pc a b n = shifted_right_at 64 a n
-computed (Scalar Srai) pc a b n = sign_shifted_right_at 64 a n
-computed (Scalar Addiw) pc a b n = extended (sum_at 32 a n)
-computed (Scalar Slliw) pc a b n = extended (shifted_left_at 32 a n)
-computed (Scalar Srliw) pc a b n = extended (shifted_right_at 32 a n)
-computed (Scalar Sraiw) pc a b n = extended (sign_shifted_right_at 32 a n)
-computed (Scalar Add) pc a b n = sum_at 64 a b
-computed (Scalar Sub) pc a b n = difference_at 64 a b
-computed (Scalar Sll) pc a b n = shifted_left_at 64 a b
-computed (Scalar Slt) pc a b n = truth (is_less a b)
-computed (Scalar Sltu) pc a b n = truth (nat_lt a b)
-computed (Scalar Xor) pc a b n = bit_xor a b
-computed (Scalar Srl) pc a b n = shifted_right_at 64 a b
-computed (Scalar Sra) pc a b n = sign_shifted_right_at 64 a b
-computed (Scalar Or) pc a b n = bit_or a b
-computed (Scalar And) pc a b n = bit_and a b
-computed (Scalar Addw) pc a b n = extended (sum_at 32 a b)
-computed (Scalar Subw) pc a b n = extended (difference_at 32 a b)
-computed (Scalar Sllw) pc a b n = extended (shifted_left_at 32 a b)
-computed (Scalar Srlw) pc a b n = extended (shifted_right_at 32 a b)
-computed (Scalar Sraw) pc a b n = extended (sign_shifted_right_at 32 a b)
-computed op pc a b n = 0
-
--- the value that a row of class Multiply puts into rd
-abbrev pub multiplied : Op → (a b : ℕ) → ℕ
-multiplied (Scalar Mul) a b = product_at 64 a b
-multiplied (Scalar Mulh) a b = signed_high_at 64 a b
-multiplied (Scalar Mulhsu) a b = mixed_high_at 64 a b
-multiplied (Scalar Mulhu) a b = unsigned_high_at 64 a b
-multiplied (Scalar Mulw) a b = extended (product_at 32 a b)
-multiplied op a b = 0
-
--- the value that a row of class Divide puts into rd
-abbrev pub divided : Op → (a b : ℕ) → ℕ
-divided (Scalar Div) a b = signed_quotient_at 64 a b
-divided (Scalar Divu) a b = unsigned_quotient_at 64 a b
-divided (Scalar Rem) a b = signed_remainder_at 64 a b
-divided (Scalar Remu) a b = unsigned_remainder_at 64 a b
-divided (Scalar Divw) a b = extended (signed_quotient_at 32 a b)
-divided (Scalar Divuw) a b = extended (unsigned_quotient_at 32 a b)
-divided (Scalar Remw) a b = extended (signed_remainder_at 32 a b)
-divided (Scalar Remuw) a b = extended (unsigned_remainder_at 32 a b)
-divided op a b = 0
-
--- a row of class Branch jumps
-abbrev pub is_taken : Op → (a b : ℕ) → Bool
-is_taken (Scalar Beq) a b = a == b
-is_taken (Scalar Bne) a b = not (a == b)
-is_taken (Scalar Blt) a b = is_less a b
-is_taken (Scalar Bge) a b = not (is_less a b)
-is_taken (Scalar Bltu) a b = nat_lt a b
-is_taken (Scalar Bgeu) a b = not (nat_lt a b)
-is_taken op a b = false
-
 -- the number without its bit 0
 abbrev pub even : ℕ → ℕ
 even n = n - n % 2
-
--- where a row of class Jump jumps to
-abbrev pub jump_target : Op → (pc a n : ℕ) → ℕ
-jump_target (Scalar Jalr) pc a n = even (sum_at 64 a n)
-jump_target op pc a n = sum_at 64 pc n
 
 -- what a jump to a target does, which is to be a multiple of 4
 abbrev pub jump : (target : ℕ) → Effect → Effect
 jump target done = if target % 4 == 0 then done else Misaligned target
 
--- what a row of a class does
-abbrev pub effect_as : Class → Op → (pc a b n : ℕ) → Effect
-effect_as class.Arithmetic op pc a b n = Value (computed op pc a b n) (next_pc pc)
-effect_as class.Multiply op pc a b n = Value (multiplied op a b) (next_pc pc)
-effect_as class.Divide op pc a b n = Value (divided op a b) (next_pc pc)
-effect_as class.Jump op pc a b n =
-    let target = jump_target op pc a n in
-    jump target (Value (next_pc pc) target)
-effect_as class.Branch op pc a b n =
+-- what an operation does: an effect on registers and the pc, a load or a store of so many bytes, of which a load makes a
+-- value out of the number that they are, or something else
+pub data Work : Type 0 where
+  Acts : (effect : Effect) → Work
+  Loads : (width : ℕ) → (value : ℕ → ℕ) → Work
+  Stores : (width : ℕ) → Work
+  Asks : Work
+  Breaks : Work
+  Controls : Work
+  Vectors : Work
+
+-- the effect of a row that puts a value into rd
+abbrev pub put : (value pc : ℕ) → Effect
+put value pc = Value value (next_pc pc)
+
+-- of one that jumps to a target, and puts the pc of what follows into rd
+abbrev pub jumped : (target pc : ℕ) → Effect
+jumped target pc = jump target (Value (next_pc pc) target)
+
+-- of one that jumps by n where a comparison holds
+abbrev pub branched : Bool → (pc n : ℕ) → Effect
+branched holds pc n =
     let target = sum_at 64 pc n in
-    if is_taken op a b then jump target (Next target) else Next (next_pc pc)
--- a fence orders nothing here; the rows of other classes don't go by their effect
-effect_as other op pc a b n = Next (next_pc pc)
+    if holds then jump target (Next target) else Next (next_pc pc)
+
+abbrev puts : (value pc : ℕ) → Work
+puts value pc = Acts (put value pc)
+
+abbrev jump_to : (target pc : ℕ) → Work
+jump_to target pc = Acts (jumped target pc)
+
+abbrev branch : Bool → (pc n : ℕ) → Work
+branch holds pc n = Acts (branched holds pc n)
+
+-- a fence orders nothing here
+abbrev passes : ℕ → Work
+passes pc = Acts (Next (next_pc pc))
+
+-- the value of a load: the number, or the number sign-extended from its width
+abbrev whole : ℕ → ℕ
+whole n = n
+
+abbrev sign_extended : (width : ℕ) → ℕ → ℕ
+sign_extended width n = reduced 64 (signed_at width n)
+
+-- what each scalar operation does, of the pc, a, b and n
+abbrev pub scalar_work : ScalarOp → (pc a b n : ℕ) → Work
+scalar_work Lui pc a b n = puts (upper n) pc
+scalar_work Auipc pc a b n = puts (sum_at 64 pc (upper n)) pc
+scalar_work Jal pc a b n = jump_to (sum_at 64 pc n) pc
+scalar_work Jalr pc a b n = jump_to (even (sum_at 64 a n)) pc
+scalar_work Beq pc a b n = branch (a == b) pc n
+scalar_work Bne pc a b n = branch (not (a == b)) pc n
+scalar_work Blt pc a b n = branch (is_less a b) pc n
+scalar_work Bge pc a b n = branch (not (is_less a b)) pc n
+scalar_work Bltu pc a b n = branch (nat_lt a b) pc n
+scalar_work Bgeu pc a b n = branch (not (nat_lt a b)) pc n
+scalar_work Lb pc a b n = Loads 1 (sign_extended 8)
+scalar_work Lh pc a b n = Loads 2 (sign_extended 16)
+scalar_work Lw pc a b n = Loads 4 (sign_extended 32)
+scalar_work Ld pc a b n = Loads 8 whole
+scalar_work Lbu pc a b n = Loads 1 whole
+scalar_work Lhu pc a b n = Loads 2 whole
+scalar_work Lwu pc a b n = Loads 4 whole
+scalar_work Sb pc a b n = Stores 1
+scalar_work Sh pc a b n = Stores 2
+scalar_work Sw pc a b n = Stores 4
+scalar_work Sd pc a b n = Stores 8
+scalar_work Addi pc a b n = puts (sum_at 64 a n) pc
+scalar_work Slti pc a b n = puts (truth (is_less a n)) pc
+scalar_work Sltiu pc a b n = puts (truth (nat_lt a n)) pc
+scalar_work Xori pc a b n = puts (bit_xor a n) pc
+scalar_work Ori pc a b n = puts (bit_or a n) pc
+scalar_work Andi pc a b n = puts (bit_and a n) pc
+scalar_work Slli pc a b n = puts (shifted_left_at 64 a n) pc
+scalar_work Srli pc a b n = puts (shifted_right_at 64 a n) pc
+scalar_work Srai pc a b n = puts (sign_shifted_right_at 64 a n) pc
+scalar_work Addiw pc a b n = puts (extended (sum_at 32 a n)) pc
+scalar_work Slliw pc a b n = puts (extended (shifted_left_at 32 a n)) pc
+scalar_work Srliw pc a b n = puts (extended (shifted_right_at 32 a n)) pc
+scalar_work Sraiw pc a b n = puts (extended (sign_shifted_right_at 32 a n)) pc
+scalar_work Add pc a b n = puts (sum_at 64 a b) pc
+scalar_work Sub pc a b n = puts (difference_at 64 a b) pc
+scalar_work Sll pc a b n = puts (shifted_left_at 64 a b) pc
+scalar_work Slt pc a b n = puts (truth (is_less a b)) pc
+scalar_work Sltu pc a b n = puts (truth (nat_lt a b)) pc
+scalar_work Xor pc a b n = puts (bit_xor a b) pc
+scalar_work Srl pc a b n = puts (shifted_right_at 64 a b) pc
+scalar_work Sra pc a b n = puts (sign_shifted_right_at 64 a b) pc
+scalar_work Or pc a b n = puts (bit_or a b) pc
+scalar_work And pc a b n = puts (bit_and a b) pc
+scalar_work Mul pc a b n = puts (product_at 64 a b) pc
+scalar_work Mulh pc a b n = puts (signed_high_at 64 a b) pc
+scalar_work Mulhsu pc a b n = puts (mixed_high_at 64 a b) pc
+scalar_work Mulhu pc a b n = puts (unsigned_high_at 64 a b) pc
+scalar_work Div pc a b n = puts (signed_quotient_at 64 a b) pc
+scalar_work Divu pc a b n = puts (unsigned_quotient_at 64 a b) pc
+scalar_work Rem pc a b n = puts (signed_remainder_at 64 a b) pc
+scalar_work Remu pc a b n = puts (unsigned_remainder_at 64 a b) pc
+scalar_work Addw pc a b n = puts (extended (sum_at 32 a b)) pc
+scalar_work Subw pc a b n = puts (extended (difference_at 32 a b)) pc
+scalar_work Sllw pc a b n = puts (extended (shifted_left_at 32 a b)) pc
+scalar_work Srlw pc a b n = puts (extended (shifted_right_at 32 a b)) pc
+scalar_work Sraw pc a b n = puts (extended (sign_shifted_right_at 32 a b)) pc
+scalar_work Mulw pc a b n = puts (extended (product_at 32 a b)) pc
+scalar_work Divw pc a b n = puts (extended (signed_quotient_at 32 a b)) pc
+scalar_work Divuw pc a b n = puts (extended (unsigned_quotient_at 32 a b)) pc
+scalar_work Remw pc a b n = puts (extended (signed_remainder_at 32 a b)) pc
+scalar_work Remuw pc a b n = puts (extended (unsigned_remainder_at 32 a b)) pc
+scalar_work Fence pc a b n = passes pc
+scalar_work Ecall pc a b n = Asks
+scalar_work Ebreak pc a b n = Breaks
+scalar_work Csrrw pc a b n = Controls
+scalar_work Csrrs pc a b n = Controls
+scalar_work Csrrc pc a b n = Controls
+scalar_work Csrrwi pc a b n = Controls
+scalar_work Csrrsi pc a b n = Controls
+scalar_work Csrrci pc a b n = Controls
+
+abbrev pub work : Op → (pc a b n : ℕ) → Work
+work (Scalar op) pc a b n = scalar_work op pc a b n
+work (Set op) pc a b n = Vectors
+work (Elem op) pc a b n = Vectors
+work (Widen op) pc a b n = Vectors
+work (Fixed op) pc a b n = Vectors
+work (Mask op) pc a b n = Vectors
+work (Perm op) pc a b n = Vectors
+work (Memory op) pc a b n = Vectors
+
+-- the effect of an operation that touches no memory; any other has none here but to go on
+abbrev pub effect_of : Work → (pc : ℕ) → Effect
+effect_of (Acts effect) pc = effect
+effect_of (Loads width value) pc = Next (next_pc pc)
+effect_of (Stores width) pc = Next (next_pc pc)
+effect_of Asks pc = Next (next_pc pc)
+effect_of Breaks pc = Next (next_pc pc)
+effect_of Controls pc = Next (next_pc pc)
+effect_of Vectors pc = Next (next_pc pc)
 
 -- what an instruction does, of the registers and the pc
 abbrev pub effect : Instr → (x : List ℕ) → (pc : ℕ) → Effect
-effect i x pc = effect_as (class_of i.op) i.op pc (slice_index x i.rs1) (slice_index x i.rs2) (reduced 64 i.imm)
+effect i x pc = effect_of (work i.op pc (slice_index x i.rs1) (slice_index x i.rs2) (reduced 64 i.imm)) pc

@@ -5,6 +5,7 @@ use Rattle.vx_base.specs.Numbers.{signed, little_endian, from_little_endian}
 use Rattle.vx_base.specs.declared.machine.Fault.{Fault}
 use Rattle.vx_base.specs.declared.machine.Want.TheVariants.{Fetch, Load, Store}
 use Rattle.vx_decode.specs.Decoded.{decoded}
+use Rattle.vx_decode.specs.Encoded.{word_of}
 use Rattle.vx_decode.specs.declared.instr.Instr.{Instr}
 use Rattle.vx_rows.specs.Table.{class_of}
 use Rattle.vx_rows.specs.declared.row.Class.{Class}
@@ -30,10 +31,23 @@ pub data Outcome : Type 0 where
 abbrev pub faulted : Flat → (cause tval : ℕ) → Outcome
 faulted s cause tval = Faulted (record { cause = cause; tval = tval; vstart = 0 }) s
 
--- the rows that the machine executes: there are no control registers yet
+-- the rows that the machine executes: there are no control registers and no vectors yet
 abbrev pub is_executed : Class → Bool
+is_executed class.Arithmetic = true
+is_executed class.Multiply = true
+is_executed class.Divide = true
+is_executed class.Jump = true
+is_executed class.Branch = true
+is_executed class.Load = true
+is_executed class.Store = true
+is_executed class.Fence = true
+is_executed class.Ecall = true
+is_executed class.Ebreak = true
 is_executed class.Csr = false
-is_executed other = true
+is_executed class.Set = false
+is_executed (class.VectorArithmetic family) = false
+is_executed (class.VectorLoad addressing width) = false
+is_executed (class.VectorStore addressing width) = false
 
 -- what a word means, as what comes next; one whose row isn't executed is illegal
 abbrev pub meaning : ℕ → Option Instr → Upcoming
@@ -80,15 +94,31 @@ ecall s =
     if register s 17 == 93 then Exited (signed 64 (register s 10))
     else Next (answered s (service s (register s 17)))
 
+-- an instruction that touches no memory, by its effect
+abbrev pub affect : Flat → Instr → Outcome
+affect s i = affected s i.rd (effect i s.x s.pc)
+
+-- an instruction that isn't executed: it is illegal, and its word is told
+abbrev pub refused : Flat → Instr → Outcome
+refused s i = faulted s 2 (word_of i)
+
 -- an instruction of a class
 abbrev pub performed_as : Class → Flat → Instr → Outcome
+performed_as class.Arithmetic s i = affect s i
+performed_as class.Multiply s i = affect s i
+performed_as class.Divide s i = affect s i
+performed_as class.Jump s i = affect s i
+performed_as class.Branch s i = affect s i
 performed_as class.Load s i = load s i
 performed_as class.Store s i = store s i
+performed_as class.Fence s i = affect s i
 performed_as class.Ecall s i = ecall s
 performed_as class.Ebreak s i = faulted s 3 0
--- no such instruction comes next
-performed_as class.Csr s i = faulted s 2 0
-performed_as other s i = affected s i.rd (effect i s.x s.pc)
+performed_as class.Csr s i = refused s i
+performed_as class.Set s i = refused s i
+performed_as (class.VectorArithmetic family) s i = refused s i
+performed_as (class.VectorLoad addressing width) s i = refused s i
+performed_as (class.VectorStore addressing width) s i = refused s i
 
 -- what comes next, done
 unfoldable pub performed : Flat → Upcoming → Outcome

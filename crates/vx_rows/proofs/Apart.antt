@@ -25,7 +25,7 @@ not_true true n p = false≢true n
 not_true false n p = false≢true p
 
 -- a word that fits a row fits none that is apart from it
-not_both : (word : ℕ) (r s : Row) → is_apart r s ≡ true → has_bits_of word r ≡ true → has_bits_of word s ≡ true → ⊥
+pub not_both : (word : ℕ) (r s : Row) → is_apart r s ≡ true → has_bits_of word r ≡ true → has_bits_of word s ≡ true → ⊥
 not_both word r s a p q =
     not_true _ a (eq-eqb _ _ (both word r.mask r.value s.mask s.value (eqb-true _ _ p) (eqb-true _ _ q)))
 

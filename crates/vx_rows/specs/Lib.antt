@@ -1,2 +1,4 @@
-pub mod Names
+pub mod Families
+pub mod Layouts
+pub mod Lines
 pub mod Table

@@ -1,10 +1,43 @@
-ghost use Rattle.std.specs.Prelude.{◌≡◌};
-ghost use Rattle.vx_rows.specs.Table.{class_of, shape_of, value_of};
+use crate::family::Family;
+use crate::op::Op;
 
-use crate::op::{Op, ScalarOp};
+/// What stands in the place of `vs1` in a row of vector arithmetic, bits 19 to 15.
+#[derive(Clone, Copy, PartialEq, Eq, Debug)]
+pub enum First {
+    /// The vector register `vs1`.
+    Vector,
+    /// The integer register `rs1`.
+    Integer,
+    /// A signed number of 5 bits.
+    Signed,
+    /// A number of 5 bits without sign.
+    Unsigned,
+    /// No operand.
+    Fixed,
+}
+
+/// What stands in the place of `vs2` in a row of vector arithmetic, bits 24 to 20.
+#[derive(Clone, Copy, PartialEq, Eq, Debug)]
+pub enum Second {
+    /// The vector register `vs2`.
+    Vector,
+    /// No operand.
+    Fixed,
+}
+
+/// Bit 25 of a row of vector arithmetic.
+#[derive(Clone, Copy, PartialEq, Eq, Debug)]
+pub enum Vm {
+    /// 0 where the mask in `v0` says which elements are active, else 1.
+    Any,
+    /// Always 0: the row reads `v0` as an operand, and its elements aren't masked.
+    Zero,
+    /// Always 1: the row has no mask.
+    One,
+}
 
 /// Where a row's operands stand in its word: the instruction formats of the Unprivileged ISA, section 2.2, and what
-/// the number of a format stands for.
+/// the number of a format stands for, and those of the vector extension (RISC-V "V" 1.0, sections 5.1, 6 and 7.2).
 #[derive(Clone, Copy, PartialEq, Eq, Debug)]
 pub enum Shape {
     /// R: `rd`, `rs1` and `rs2`.
@@ -33,6 +66,96 @@ pub enum Shape {
     CsrNumber,
     /// No operands.
     Fixed,
+    /// `rd`, `rs1` and a number of 11 bits for vtype.
+    SetType,
+    /// `rd`, a number of 5 bits in the place of `rs1`, and one of 10 bits for vtype.
+    SetNumber,
+    /// `rd`, `rs1`, and vtype in `rs2`.
+    SetRegister,
+    /// `vd` or `rd`, what stands in the places of `vs1` and `vs2`, and the mask.
+    Vector(First, Second, Vm),
+    /// `vd` or `vs3`, the address in `rs1`, the mask, and the number of fields.
+    UnitMemory,
+    /// `vd` or `vs3`, and the address in `rs1`; the number of registers has a row each.
+    WholeMemory,
+    /// `vd` or `vs3`, and the address in `rs1`.
+    MaskMemory,
+    /// As `UnitMemory`, and the stride in `rs2`.
+    StridedMemory,
+    /// As `UnitMemory`, and the indices in `vs2`.
+    IndexedMemory,
+}
+
+/// The number of an instruction: where it stands in a word, and how it is read (RISC-V Unprivileged ISA 20191213,
+/// sections 2.2 and 2.3; RISC-V "V" 1.0, sections 6 and 10.1).
+#[derive(Clone, Copy, PartialEq, Eq, Debug)]
+pub enum Number {
+    /// No number.
+    Absent,
+    /// A number without sign, from a bit on, of so many bits.
+    Unsigned(u32, u32),
+    /// A signed number, from a bit on, of so many bits.
+    Signed(u32, u32),
+    /// A signed number of 12 bits in the places of format S.
+    FormatS,
+    /// A signed even number of 13 bits in the places of format B.
+    FormatB,
+    /// A signed even number of 21 bits in the places of format J.
+    FormatJ,
+}
+
+/// Bits 31 to 29 of a vector load or store: one less than its number of fields or of whole registers.
+#[derive(Clone, Copy, PartialEq, Eq, Debug)]
+pub enum Nf {
+    /// No such field.
+    Absent,
+    /// Any number of fields from 1 to 8.
+    Any,
+    /// 1, 2, 4 or 8 registers: a row each.
+    Registers,
+}
+
+/// What stands in the words of a shape beside their fixed bits.
+#[derive(Clone, Copy, PartialEq, Eq, Debug)]
+pub struct Layout {
+    /// Bits 11 to 7 are `rd`, `vd` or `vs3`.
+    pub rd: bool,
+    /// Bits 19 to 15 are `rs1` or `vs1`, or a number that stands for a register.
+    pub rs1: bool,
+    /// Bits 24 to 20 are `rs2` or `vs2`.
+    pub rs2: bool,
+    pub number: Number,
+    /// Bit 25 of a vector row; a scalar row counts as one without a mask.
+    pub vm: Vm,
+    pub nf: Nf,
+}
+
+/// Which addresses a vector load or store accesses (RISC-V "V" 1.0, sections 7.2 and 7.4 to 7.9).
+#[derive(Clone, Copy, PartialEq, Eq, Debug)]
+pub enum Addressing {
+    /// Elements one behind another.
+    Unit,
+    /// The same; a fault behind the first element shortens vl.
+    FaultOnlyFirst,
+    /// Whole registers.
+    Whole,
+    /// The bytes of a mask.
+    MaskBits,
+    /// Elements at a distance that a register tells.
+    Strided,
+    /// Elements at indices, in any order by the standard, in element order here.
+    Unordered,
+    /// Elements at indices, in element order.
+    Ordered,
+}
+
+/// The width that a vector load or store encodes: of its elements, or of its indices.
+#[derive(Clone, Copy, PartialEq, Eq, Debug)]
+pub enum Eew {
+    E8,
+    E16,
+    E32,
+    E64,
 }
 
 /// How the flat machine goes on at an instruction.
@@ -60,6 +183,14 @@ pub enum Class {
     Ebreak,
     /// Reads and writes a control register.
     Csr,
+    /// Configures the vector unit.
+    Set,
+    /// Computes elements of vector registers, or an integer register from them.
+    VectorArithmetic(Family),
+    /// Reads vector registers from memory.
+    VectorLoad(Addressing, Eew),
+    /// Writes vector registers to memory.
+    VectorStore(Addressing, Eew),
 }
 
 /// A row of the instruction set. A word is an instruction of the row where `word & mask` is `value`.
@@ -70,226 +201,4 @@ pub struct Row {
     pub value: u32,
     pub shape: Shape,
     pub class: Class,
-}
-
-impl Op {
-    /// How the flat machine goes on at an instruction with this operation.
-    pub fn class(self) -> Class
-        ensures { result ≡ class_of self }
-    {
-        match self {
-            Op::Scalar(op) => scalar_class(op),
-        }
-    }
-
-    /// Where the operands of an instruction with this operation stand.
-    pub fn shape(self) -> Shape
-        ensures { result ≡ shape_of self }
-    {
-        match self {
-            Op::Scalar(op) => scalar_shape(op),
-        }
-    }
-
-    /// The fixed bits of this operation's row; all other bits are 0.
-    pub fn value(self) -> u32
-        ensures { result ≡ value_of self }
-    {
-        match self {
-            Op::Scalar(op) => scalar_value(op),
-        }
-    }
-}
-
-fn scalar_class(op: ScalarOp) -> Class
-    ensures { result ≡ class_of (Op.Scalar op) }
-{
-    match op {
-        ScalarOp::Lui => Class::Arithmetic,
-        ScalarOp::Auipc => Class::Arithmetic,
-        ScalarOp::Jal => Class::Jump,
-        ScalarOp::Jalr => Class::Jump,
-        ScalarOp::Beq
-        | ScalarOp::Bne
-        | ScalarOp::Blt
-        | ScalarOp::Bge
-        | ScalarOp::Bltu
-        | ScalarOp::Bgeu => Class::Branch,
-        ScalarOp::Lb
-        | ScalarOp::Lh
-        | ScalarOp::Lw
-        | ScalarOp::Ld
-        | ScalarOp::Lbu
-        | ScalarOp::Lhu
-        | ScalarOp::Lwu => Class::Load,
-        ScalarOp::Sb | ScalarOp::Sh | ScalarOp::Sw | ScalarOp::Sd => Class::Store,
-        ScalarOp::Addi
-        | ScalarOp::Slti
-        | ScalarOp::Sltiu
-        | ScalarOp::Xori
-        | ScalarOp::Ori
-        | ScalarOp::Andi
-        | ScalarOp::Slli
-        | ScalarOp::Srli
-        | ScalarOp::Srai => Class::Arithmetic,
-        ScalarOp::Addiw | ScalarOp::Slliw | ScalarOp::Srliw | ScalarOp::Sraiw => Class::Arithmetic,
-        ScalarOp::Add
-        | ScalarOp::Sub
-        | ScalarOp::Sll
-        | ScalarOp::Slt
-        | ScalarOp::Sltu
-        | ScalarOp::Xor
-        | ScalarOp::Srl
-        | ScalarOp::Sra
-        | ScalarOp::Or
-        | ScalarOp::And => Class::Arithmetic,
-        ScalarOp::Mul | ScalarOp::Mulh | ScalarOp::Mulhsu | ScalarOp::Mulhu => Class::Multiply,
-        ScalarOp::Div | ScalarOp::Divu | ScalarOp::Rem | ScalarOp::Remu => Class::Divide,
-        ScalarOp::Addw | ScalarOp::Subw | ScalarOp::Sllw | ScalarOp::Srlw | ScalarOp::Sraw =>
-            Class::Arithmetic,
-        ScalarOp::Mulw => Class::Multiply,
-        ScalarOp::Divw | ScalarOp::Divuw | ScalarOp::Remw | ScalarOp::Remuw => Class::Divide,
-        ScalarOp::Fence => Class::Fence,
-        ScalarOp::Ecall => Class::Ecall,
-        ScalarOp::Ebreak => Class::Ebreak,
-        ScalarOp::Csrrw
-        | ScalarOp::Csrrs
-        | ScalarOp::Csrrc
-        | ScalarOp::Csrrwi
-        | ScalarOp::Csrrsi
-        | ScalarOp::Csrrci => Class::Csr,
-    }
-}
-
-fn scalar_shape(op: ScalarOp) -> Shape
-    ensures { result ≡ shape_of (Op.Scalar op) }
-{
-    match op {
-        ScalarOp::Lui => Shape::Upper,
-        ScalarOp::Auipc => Shape::Upper,
-        ScalarOp::Jal => Shape::Jump,
-        ScalarOp::Jalr => Shape::Immediate,
-        ScalarOp::Beq
-        | ScalarOp::Bne
-        | ScalarOp::Blt
-        | ScalarOp::Bge
-        | ScalarOp::Bltu
-        | ScalarOp::Bgeu => Shape::Branch,
-        ScalarOp::Lb
-        | ScalarOp::Lh
-        | ScalarOp::Lw
-        | ScalarOp::Ld
-        | ScalarOp::Lbu
-        | ScalarOp::Lhu
-        | ScalarOp::Lwu => Shape::Load,
-        ScalarOp::Sb | ScalarOp::Sh | ScalarOp::Sw | ScalarOp::Sd => Shape::Store,
-        ScalarOp::Addi
-        | ScalarOp::Slti
-        | ScalarOp::Sltiu
-        | ScalarOp::Xori
-        | ScalarOp::Ori
-        | ScalarOp::Andi => Shape::Immediate,
-        ScalarOp::Slli | ScalarOp::Srli | ScalarOp::Srai => Shape::Shift,
-        ScalarOp::Addiw => Shape::Immediate,
-        ScalarOp::Slliw | ScalarOp::Srliw | ScalarOp::Sraiw => Shape::ShiftWord,
-        ScalarOp::Add
-        | ScalarOp::Sub
-        | ScalarOp::Sll
-        | ScalarOp::Slt
-        | ScalarOp::Sltu
-        | ScalarOp::Xor
-        | ScalarOp::Srl
-        | ScalarOp::Sra
-        | ScalarOp::Or
-        | ScalarOp::And => Shape::Registers,
-        ScalarOp::Mul | ScalarOp::Mulh | ScalarOp::Mulhsu | ScalarOp::Mulhu => Shape::Registers,
-        ScalarOp::Div | ScalarOp::Divu | ScalarOp::Rem | ScalarOp::Remu => Shape::Registers,
-        ScalarOp::Addw | ScalarOp::Subw | ScalarOp::Sllw | ScalarOp::Srlw | ScalarOp::Sraw =>
-            Shape::Registers,
-        ScalarOp::Mulw => Shape::Registers,
-        ScalarOp::Divw | ScalarOp::Divuw | ScalarOp::Remw | ScalarOp::Remuw => Shape::Registers,
-        ScalarOp::Fence => Shape::Fence,
-        ScalarOp::Ecall => Shape::Fixed,
-        ScalarOp::Ebreak => Shape::Fixed,
-        ScalarOp::Csrrw | ScalarOp::Csrrs | ScalarOp::Csrrc => Shape::Csr,
-        ScalarOp::Csrrwi | ScalarOp::Csrrsi | ScalarOp::Csrrci => Shape::CsrNumber,
-    }
-}
-
-fn scalar_value(op: ScalarOp) -> u32
-    ensures { result ≡ value_of (Op.Scalar op) }
-{
-    match op {
-        ScalarOp::Lui => 0x37,
-        ScalarOp::Auipc => 0x17,
-        ScalarOp::Jal => 0x6f,
-        ScalarOp::Jalr => 0x67,
-        ScalarOp::Beq => 0x63,
-        ScalarOp::Bne => 0x1063,
-        ScalarOp::Blt => 0x4063,
-        ScalarOp::Bge => 0x5063,
-        ScalarOp::Bltu => 0x6063,
-        ScalarOp::Bgeu => 0x7063,
-        ScalarOp::Lb => 0x3,
-        ScalarOp::Lh => 0x1003,
-        ScalarOp::Lw => 0x2003,
-        ScalarOp::Ld => 0x3003,
-        ScalarOp::Lbu => 0x4003,
-        ScalarOp::Lhu => 0x5003,
-        ScalarOp::Lwu => 0x6003,
-        ScalarOp::Sb => 0x23,
-        ScalarOp::Sh => 0x1023,
-        ScalarOp::Sw => 0x2023,
-        ScalarOp::Sd => 0x3023,
-        ScalarOp::Addi => 0x13,
-        ScalarOp::Slti => 0x2013,
-        ScalarOp::Sltiu => 0x3013,
-        ScalarOp::Xori => 0x4013,
-        ScalarOp::Ori => 0x6013,
-        ScalarOp::Andi => 0x7013,
-        ScalarOp::Slli => 0x1013,
-        ScalarOp::Srli => 0x5013,
-        ScalarOp::Srai => 0x4000_5013,
-        ScalarOp::Addiw => 0x1b,
-        ScalarOp::Slliw => 0x101b,
-        ScalarOp::Srliw => 0x501b,
-        ScalarOp::Sraiw => 0x4000_501b,
-        ScalarOp::Add => 0x33,
-        ScalarOp::Sub => 0x4000_0033,
-        ScalarOp::Sll => 0x1033,
-        ScalarOp::Slt => 0x2033,
-        ScalarOp::Sltu => 0x3033,
-        ScalarOp::Xor => 0x4033,
-        ScalarOp::Srl => 0x5033,
-        ScalarOp::Sra => 0x4000_5033,
-        ScalarOp::Or => 0x6033,
-        ScalarOp::And => 0x7033,
-        ScalarOp::Mul => 0x0200_0033,
-        ScalarOp::Mulh => 0x0200_1033,
-        ScalarOp::Mulhsu => 0x0200_2033,
-        ScalarOp::Mulhu => 0x0200_3033,
-        ScalarOp::Div => 0x0200_4033,
-        ScalarOp::Divu => 0x0200_5033,
-        ScalarOp::Rem => 0x0200_6033,
-        ScalarOp::Remu => 0x0200_7033,
-        ScalarOp::Addw => 0x3b,
-        ScalarOp::Subw => 0x4000_003b,
-        ScalarOp::Sllw => 0x103b,
-        ScalarOp::Srlw => 0x503b,
-        ScalarOp::Sraw => 0x4000_503b,
-        ScalarOp::Mulw => 0x0200_003b,
-        ScalarOp::Divw => 0x0200_403b,
-        ScalarOp::Divuw => 0x0200_503b,
-        ScalarOp::Remw => 0x0200_603b,
-        ScalarOp::Remuw => 0x0200_703b,
-        ScalarOp::Fence => 0xf,
-        ScalarOp::Ecall => 0x73,
-        ScalarOp::Ebreak => 0x0010_0073,
-        ScalarOp::Csrrw => 0x1073,
-        ScalarOp::Csrrs => 0x2073,
-        ScalarOp::Csrrc => 0x3073,
-        ScalarOp::Csrrwi => 0x5073,
-        ScalarOp::Csrrsi => 0x6073,
-        ScalarOp::Csrrci => 0x7073,
-    }
 }

@@ -1,96 +1,53 @@
-ghost use Rattle.std.specs.Prelude.{◌≡◌};
-ghost use Rattle.vx_rows.specs.Names.{mnemonic};
-ghost use Rattle.vx_rows.specs.Table.{table, FitsOneAtMost};
+ghost use Rattle.std.specs.Prelude.{◌≡◌, ℕ, length, map};
+ghost use Rattle.vx_rows.specs.Layouts.{HasFields, layout_of};
+ghost use Rattle.vx_rows.specs.Table.{
+  table,
+  bits_of,
+  shape_of,
+  class_of,
+  mnemonic,
+  all_memory_names,
+  FitsOneAtMost,
+  HasItsRows,
+};
 
-use crate::op::{Op, ScalarOp};
-use crate::row::{Class, Row, Shape};
+use crate::family::Family;
+use crate::line::{
+    Line, addressing_bits, direction_bits, direction_class, first_mask, gather, line, lines,
+    lines_of_both, mask, memory, name, name_by_op, names, names_of_both, parts, row, rows_of_parts,
+    second_mask, vector, vm_bit, vm_mask, width_number, with_whole,
+};
+use crate::lines::{
+    elem_lines, fixed_lines, mask_lines, memory_lines, perm_lines, scalar_lines, set_lines,
+    whole_lines, widen_lines,
+};
+use crate::op::{ElemOp, FixedOp, MaskOp, MemoryOp, Op, PermOp, ScalarOp, SetOp, WidenOp};
+use crate::row::{Addressing, Class, Eew, First, Row, Second, Shape, Vm};
 
-/// A row of a scalar operation.
-macro_rules! scalar {
-    ($op:ident, $mask:literal, $value:literal, $shape:ident, $class:ident) => {
-        Row {
-            op: Op::Scalar(ScalarOp::$op),
-            mask: $mask,
-            value: $value,
-            shape: Shape::$shape,
-            class: Class::$class,
-        }
-    };
-}
+static SCALAR: [Line; 71] = scalar_lines!(lines);
 
-static ROWS: [Row; 71] = [
-    scalar!(Lui, 0x7f, 0x37, Upper, Arithmetic),
-    scalar!(Auipc, 0x7f, 0x17, Upper, Arithmetic),
-    scalar!(Jal, 0x7f, 0x6f, Jump, Jump),
-    scalar!(Jalr, 0x707f, 0x67, Immediate, Jump),
-    scalar!(Beq, 0x707f, 0x63, Branch, Branch),
-    scalar!(Bne, 0x707f, 0x1063, Branch, Branch),
-    scalar!(Blt, 0x707f, 0x4063, Branch, Branch),
-    scalar!(Bge, 0x707f, 0x5063, Branch, Branch),
-    scalar!(Bltu, 0x707f, 0x6063, Branch, Branch),
-    scalar!(Bgeu, 0x707f, 0x7063, Branch, Branch),
-    scalar!(Lb, 0x707f, 0x3, Load, Load),
-    scalar!(Lh, 0x707f, 0x1003, Load, Load),
-    scalar!(Lw, 0x707f, 0x2003, Load, Load),
-    scalar!(Ld, 0x707f, 0x3003, Load, Load),
-    scalar!(Lbu, 0x707f, 0x4003, Load, Load),
-    scalar!(Lhu, 0x707f, 0x5003, Load, Load),
-    scalar!(Lwu, 0x707f, 0x6003, Load, Load),
-    scalar!(Sb, 0x707f, 0x23, Store, Store),
-    scalar!(Sh, 0x707f, 0x1023, Store, Store),
-    scalar!(Sw, 0x707f, 0x2023, Store, Store),
-    scalar!(Sd, 0x707f, 0x3023, Store, Store),
-    scalar!(Addi, 0x707f, 0x13, Immediate, Arithmetic),
-    scalar!(Slti, 0x707f, 0x2013, Immediate, Arithmetic),
-    scalar!(Sltiu, 0x707f, 0x3013, Immediate, Arithmetic),
-    scalar!(Xori, 0x707f, 0x4013, Immediate, Arithmetic),
-    scalar!(Ori, 0x707f, 0x6013, Immediate, Arithmetic),
-    scalar!(Andi, 0x707f, 0x7013, Immediate, Arithmetic),
-    scalar!(Slli, 0xfc00_707f, 0x1013, Shift, Arithmetic),
-    scalar!(Srli, 0xfc00_707f, 0x5013, Shift, Arithmetic),
-    scalar!(Srai, 0xfc00_707f, 0x4000_5013, Shift, Arithmetic),
-    scalar!(Addiw, 0x707f, 0x1b, Immediate, Arithmetic),
-    scalar!(Slliw, 0xfe00_707f, 0x101b, ShiftWord, Arithmetic),
-    scalar!(Srliw, 0xfe00_707f, 0x501b, ShiftWord, Arithmetic),
-    scalar!(Sraiw, 0xfe00_707f, 0x4000_501b, ShiftWord, Arithmetic),
-    scalar!(Add, 0xfe00_707f, 0x33, Registers, Arithmetic),
-    scalar!(Sub, 0xfe00_707f, 0x4000_0033, Registers, Arithmetic),
-    scalar!(Sll, 0xfe00_707f, 0x1033, Registers, Arithmetic),
-    scalar!(Slt, 0xfe00_707f, 0x2033, Registers, Arithmetic),
-    scalar!(Sltu, 0xfe00_707f, 0x3033, Registers, Arithmetic),
-    scalar!(Xor, 0xfe00_707f, 0x4033, Registers, Arithmetic),
-    scalar!(Srl, 0xfe00_707f, 0x5033, Registers, Arithmetic),
-    scalar!(Sra, 0xfe00_707f, 0x4000_5033, Registers, Arithmetic),
-    scalar!(Or, 0xfe00_707f, 0x6033, Registers, Arithmetic),
-    scalar!(And, 0xfe00_707f, 0x7033, Registers, Arithmetic),
-    scalar!(Mul, 0xfe00_707f, 0x0200_0033, Registers, Multiply),
-    scalar!(Mulh, 0xfe00_707f, 0x0200_1033, Registers, Multiply),
-    scalar!(Mulhsu, 0xfe00_707f, 0x0200_2033, Registers, Multiply),
-    scalar!(Mulhu, 0xfe00_707f, 0x0200_3033, Registers, Multiply),
-    scalar!(Div, 0xfe00_707f, 0x0200_4033, Registers, Divide),
-    scalar!(Divu, 0xfe00_707f, 0x0200_5033, Registers, Divide),
-    scalar!(Rem, 0xfe00_707f, 0x0200_6033, Registers, Divide),
-    scalar!(Remu, 0xfe00_707f, 0x0200_7033, Registers, Divide),
-    scalar!(Addw, 0xfe00_707f, 0x3b, Registers, Arithmetic),
-    scalar!(Subw, 0xfe00_707f, 0x4000_003b, Registers, Arithmetic),
-    scalar!(Sllw, 0xfe00_707f, 0x103b, Registers, Arithmetic),
-    scalar!(Srlw, 0xfe00_707f, 0x503b, Registers, Arithmetic),
-    scalar!(Sraw, 0xfe00_707f, 0x4000_503b, Registers, Arithmetic),
-    scalar!(Mulw, 0xfe00_707f, 0x0200_003b, Registers, Multiply),
-    scalar!(Divw, 0xfe00_707f, 0x0200_403b, Registers, Divide),
-    scalar!(Divuw, 0xfe00_707f, 0x0200_503b, Registers, Divide),
-    scalar!(Remw, 0xfe00_707f, 0x0200_603b, Registers, Divide),
-    scalar!(Remuw, 0xfe00_707f, 0x0200_703b, Registers, Divide),
-    scalar!(Fence, 0x707f, 0xf, Fence, Fence),
-    scalar!(Ecall, 0xffff_ffff, 0x73, Fixed, Ecall),
-    scalar!(Ebreak, 0xffff_ffff, 0x0010_0073, Fixed, Ebreak),
-    scalar!(Csrrw, 0x707f, 0x1073, Csr, Csr),
-    scalar!(Csrrs, 0x707f, 0x2073, Csr, Csr),
-    scalar!(Csrrc, 0x707f, 0x3073, Csr, Csr),
-    scalar!(Csrrwi, 0x707f, 0x5073, CsrNumber, Csr),
-    scalar!(Csrrsi, 0x707f, 0x6073, CsrNumber, Csr),
-    scalar!(Csrrci, 0x707f, 0x7073, CsrNumber, Csr),
-];
+static SET: [Line; 3] = set_lines!(lines);
+
+static ELEM: [Line; 73] = elem_lines!(lines);
+
+static WIDEN: [Line; 70] = widen_lines!(lines);
+
+static FIXED: [Line; 32] = fixed_lines!(lines);
+
+static MASK: [Line; 26] = mask_lines!(lines);
+
+static PERM: [Line; 12] = perm_lines!(lines);
+
+static MEMORY: [Line; 43] = memory_lines!(with_whole, lines_of_both);
+
+static MEMORY_NAMES: [[&'static str; 8]; 43] = memory_lines!(with_whole, names_of_both);
+
+static ROWS: [Row; 345] = scalar_lines!(
+    gather,
+    ([] Scalar ScalarOp, set_lines Set SetOp, elem_lines Elem ElemOp, widen_lines Widen WidenOp,
+        fixed_lines Fixed FixedOp, mask_lines Mask MaskOp, perm_lines Perm PermOp, memory_lines Memory MemoryOp,
+        whole_lines Memory MemoryOp)
+);
 
 /// All rows. No word has the fixed bits of two.
 #[tactic(auto, unfolding(crate::specs::Table::operations))]
@@ -105,92 +62,190 @@ pub fn fits_one_at_most()
     ensures { FitsOneAtMost table }
 {}
 
-/// The mnemonic of an operation (RISC-V Unprivileged ISA 20191213, chapter 24). `nf` plays no part in a scalar row.
-pub fn name_of(op: Op, nf: u8) -> &'static str
-    ensures { result.now ≡ mnemonic op nf }
-{
-    let _ = nf;
-    match op {
-        Op::Scalar(op) => scalar_name(op),
+/// Each operation has its rows in the table.
+pub fn has_its_rows()
+    ensures { HasItsRows table }
+{}
+
+impl Op {
+    /// The fixed bits of its rows, but for those of the field nf of a vector load or store.
+    pub fn bits(self) -> u32
+        ensures { result ≡ bits_of self }
+    {
+        line_of(self).bits
+    }
+
+    /// Where its operands stand.
+    pub fn shape(self) -> Shape
+        ensures { result ≡ shape_of self }
+    {
+        line_of(self).shape
+    }
+
+    /// How the flat machine goes on at it.
+    pub fn class(self) -> Class
+        ensures { result ≡ class_of self }
+    {
+        line_of(self).class
     }
 }
 
-fn scalar_name(op: ScalarOp) -> &'static str
-    ensures { result.now ≡ mnemonic (Op.Scalar op) 0 }
+/// The mnemonic of an operation (RISC-V Unprivileged ISA 20191213, chapter 24, and RISC-V "V" 1.0, sections 6, 7 and 10 to
+/// 16), where a row has it with this `nf`, which plays no part but in a vector load or store.
+pub fn name_of(op: Op, nf: u8) -> &'static str
+    requires { HasFields (layout_of (shape_of op)).nf nf }
+    ensures { result.now ≡ mnemonic op nf }
 {
     match op {
-        ScalarOp::Lui => "lui",
-        ScalarOp::Auipc => "auipc",
-        ScalarOp::Jal => "jal",
-        ScalarOp::Jalr => "jalr",
-        ScalarOp::Beq => "beq",
-        ScalarOp::Bne => "bne",
-        ScalarOp::Blt => "blt",
-        ScalarOp::Bge => "bge",
-        ScalarOp::Bltu => "bltu",
-        ScalarOp::Bgeu => "bgeu",
-        ScalarOp::Lb => "lb",
-        ScalarOp::Lh => "lh",
-        ScalarOp::Lw => "lw",
-        ScalarOp::Ld => "ld",
-        ScalarOp::Lbu => "lbu",
-        ScalarOp::Lhu => "lhu",
-        ScalarOp::Lwu => "lwu",
-        ScalarOp::Sb => "sb",
-        ScalarOp::Sh => "sh",
-        ScalarOp::Sw => "sw",
-        ScalarOp::Sd => "sd",
-        ScalarOp::Addi => "addi",
-        ScalarOp::Slti => "slti",
-        ScalarOp::Sltiu => "sltiu",
-        ScalarOp::Xori => "xori",
-        ScalarOp::Ori => "ori",
-        ScalarOp::Andi => "andi",
-        ScalarOp::Slli => "slli",
-        ScalarOp::Srli => "srli",
-        ScalarOp::Srai => "srai",
-        ScalarOp::Addiw => "addiw",
-        ScalarOp::Slliw => "slliw",
-        ScalarOp::Srliw => "srliw",
-        ScalarOp::Sraiw => "sraiw",
-        ScalarOp::Add => "add",
-        ScalarOp::Sub => "sub",
-        ScalarOp::Sll => "sll",
-        ScalarOp::Slt => "slt",
-        ScalarOp::Sltu => "sltu",
-        ScalarOp::Xor => "xor",
-        ScalarOp::Srl => "srl",
-        ScalarOp::Sra => "sra",
-        ScalarOp::Or => "or",
-        ScalarOp::And => "and",
-        ScalarOp::Mul => "mul",
-        ScalarOp::Mulh => "mulh",
-        ScalarOp::Mulhsu => "mulhsu",
-        ScalarOp::Mulhu => "mulhu",
-        ScalarOp::Div => "div",
-        ScalarOp::Divu => "divu",
-        ScalarOp::Rem => "rem",
-        ScalarOp::Remu => "remu",
-        ScalarOp::Addw => "addw",
-        ScalarOp::Subw => "subw",
-        ScalarOp::Sllw => "sllw",
-        ScalarOp::Srlw => "srlw",
-        ScalarOp::Sraw => "sraw",
-        ScalarOp::Mulw => "mulw",
-        ScalarOp::Divw => "divw",
-        ScalarOp::Divuw => "divuw",
-        ScalarOp::Remw => "remw",
-        ScalarOp::Remuw => "remuw",
-        ScalarOp::Fence => "fence",
-        ScalarOp::Ecall => "ecall",
-        ScalarOp::Ebreak => "ebreak",
-        ScalarOp::Csrrw => "csrrw",
-        ScalarOp::Csrrs => "csrrs",
-        ScalarOp::Csrrc => "csrrc",
-        ScalarOp::Csrrwi => "csrrwi",
-        ScalarOp::Csrrsi => "csrrsi",
-        ScalarOp::Csrrci => "csrrci",
+        Op::Scalar(op) => scalar_name(op),
+        Op::Set(op) => set_name(op),
+        Op::Elem(op) => elem_name(op),
+        Op::Widen(op) => widen_name(op),
+        Op::Fixed(op) => fixed_name(op),
+        Op::Mask(op) => mask_name(op),
+        Op::Perm(op) => perm_name(op),
+        Op::Memory(op) => memory_name(op, nf),
     }
+}
+
+/// The line of an operation.
+fn line_of(op: Op) -> &'static Line
+    ensures bits { result.now.bits ≡ bits_of op }
+    ensures shape { result.now.shape ≡ shape_of op }
+    ensures class { result.now.class ≡ class_of op }
+{
+    match op {
+        Op::Scalar(op) => scalar_line(op),
+        Op::Set(op) => set_line(op),
+        Op::Elem(op) => elem_line(op),
+        Op::Widen(op) => widen_line(op),
+        Op::Fixed(op) => fixed_line(op),
+        Op::Mask(op) => mask_line(op),
+        Op::Perm(op) => perm_line(op),
+        Op::Memory(op) => memory_line(op),
+    }
+}
+
+fn scalar_line(op: ScalarOp) -> &'static Line
+    ensures bits { result.now.bits ≡ bits_of (Op.Scalar op) }
+    ensures shape { result.now.shape ≡ shape_of (Op.Scalar op) }
+    ensures class { result.now.class ≡ class_of (Op.Scalar op) }
+{
+    &SCALAR[op as usize]
+}
+
+fn set_line(op: SetOp) -> &'static Line
+    ensures bits { result.now.bits ≡ bits_of (Op.Set op) }
+    ensures shape { result.now.shape ≡ shape_of (Op.Set op) }
+    ensures class { result.now.class ≡ class_of (Op.Set op) }
+{
+    &SET[op as usize]
+}
+
+fn elem_line(op: ElemOp) -> &'static Line
+    ensures bits { result.now.bits ≡ bits_of (Op.Elem op) }
+    ensures shape { result.now.shape ≡ shape_of (Op.Elem op) }
+    ensures class { result.now.class ≡ class_of (Op.Elem op) }
+{
+    &ELEM[op as usize]
+}
+
+fn widen_line(op: WidenOp) -> &'static Line
+    ensures bits { result.now.bits ≡ bits_of (Op.Widen op) }
+    ensures shape { result.now.shape ≡ shape_of (Op.Widen op) }
+    ensures class { result.now.class ≡ class_of (Op.Widen op) }
+{
+    &WIDEN[op as usize]
+}
+
+fn fixed_line(op: FixedOp) -> &'static Line
+    ensures bits { result.now.bits ≡ bits_of (Op.Fixed op) }
+    ensures shape { result.now.shape ≡ shape_of (Op.Fixed op) }
+    ensures class { result.now.class ≡ class_of (Op.Fixed op) }
+{
+    &FIXED[op as usize]
+}
+
+fn mask_line(op: MaskOp) -> &'static Line
+    ensures bits { result.now.bits ≡ bits_of (Op.Mask op) }
+    ensures shape { result.now.shape ≡ shape_of (Op.Mask op) }
+    ensures class { result.now.class ≡ class_of (Op.Mask op) }
+{
+    &MASK[op as usize]
+}
+
+fn perm_line(op: PermOp) -> &'static Line
+    ensures bits { result.now.bits ≡ bits_of (Op.Perm op) }
+    ensures shape { result.now.shape ≡ shape_of (Op.Perm op) }
+    ensures class { result.now.class ≡ class_of (Op.Perm op) }
+{
+    &PERM[op as usize]
+}
+
+fn memory_line(op: MemoryOp) -> &'static Line
+    ensures bits { result.now.bits ≡ bits_of (Op.Memory op) }
+    ensures shape { result.now.shape ≡ shape_of (Op.Memory op) }
+    ensures class { result.now.class ≡ class_of (Op.Memory op) }
+{
+    &MEMORY[op as usize]
+}
+
+fn scalar_name(op: ScalarOp) -> &'static str
+    ensures { (nf : ℕ) → result.now ≡ mnemonic (Op.Scalar op) nf }
+{
+    scalar_lines!(name_by_op, (op ScalarOp))
+}
+
+fn set_name(op: SetOp) -> &'static str
+    ensures { (nf : ℕ) → result.now ≡ mnemonic (Op.Set op) nf }
+{
+    set_lines!(name_by_op, (op SetOp))
+}
+
+fn elem_name(op: ElemOp) -> &'static str
+    ensures { (nf : ℕ) → result.now ≡ mnemonic (Op.Elem op) nf }
+{
+    elem_lines!(name_by_op, (op ElemOp))
+}
+
+fn widen_name(op: WidenOp) -> &'static str
+    ensures { (nf : ℕ) → result.now ≡ mnemonic (Op.Widen op) nf }
+{
+    widen_lines!(name_by_op, (op WidenOp))
+}
+
+fn fixed_name(op: FixedOp) -> &'static str
+    ensures { (nf : ℕ) → result.now ≡ mnemonic (Op.Fixed op) nf }
+{
+    fixed_lines!(name_by_op, (op FixedOp))
+}
+
+fn mask_name(op: MaskOp) -> &'static str
+    ensures { (nf : ℕ) → result.now ≡ mnemonic (Op.Mask op) nf }
+{
+    mask_lines!(name_by_op, (op MaskOp))
+}
+
+fn perm_name(op: PermOp) -> &'static str
+    ensures { (nf : ℕ) → result.now ≡ mnemonic (Op.Perm op) nf }
+{
+    perm_lines!(name_by_op, (op PermOp))
+}
+
+/// The names of the vector loads and stores, by the field nf.
+fn memory_names() -> &'static [[&'static str; 8]]
+    ensures names { map (map (λ name. name.now)) result.now ≡ all_memory_names }
+    ensures count { length result.now ≡ 43 }
+{
+    &MEMORY_NAMES
+}
+
+fn memory_name(op: MemoryOp, nf: u8) -> &'static str
+    requires { HasFields (layout_of (shape_of (Op.Memory op))).nf nf }
+    ensures { result.now ≡ mnemonic (Op.Memory op) nf }
+{
+    let names = &memory_names()[op as usize];
+    names[usize::from(nf % 8)]
 }
 
 #[cfg(test)]
@@ -201,6 +256,9 @@ mod tests {
     fn tells_rows_and_names(rt: HostRuntime) {
         let found = rows().iter().find(|r| 0x0010_0513 & r.mask == r.value);
         assert!(rt; found.is_some_and(|r| name_of(r.op, 0) == "addi"));
+        assert_eq!(rt; name_of(Op::Memory(MemoryOp::Vlse16), 4), "vlsseg5e16.v");
+        assert_eq!(rt; name_of(Op::Memory(MemoryOp::Vsr), 7), "vs8r.v");
         fits_one_at_most();
+        has_its_rows();
     }
 }

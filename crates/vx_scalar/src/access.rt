@@ -4,7 +4,7 @@ ghost use Rattle.vx_scalar.specs.Operands.{is_access_width};
 
 use vx_rows::{Op, ScalarOp};
 
-/// How many bytes a load or a store moves.
+/// How many bytes a load or a store moves; 1 of any other operation.
 pub fn access_width(op: Op) -> u64
     ensures value { result ≡ access_width op }
     ensures width { IsTrue (is_access_width result) }

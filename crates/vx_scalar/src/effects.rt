@@ -3,32 +3,24 @@ ghost use Rattle.vx_flat.specs.Access.{access_address};
 ghost use Rattle.vx_flat.specs.Scalar.{effect};
 ghost use Rattle.vx_scalar.specs.Operands.{NamesRegisters};
 
-use crate::arithmetic::computed;
-use crate::divide::divided;
-use crate::jump::{branched, jumped};
-use crate::multiply::multiplied;
+use crate::operation::scalar_effect;
 use crate::reading::{next, number, sum};
 use crate::regs::Regs;
 use vx_decode::Instr;
 use vx_flat::Effect;
-use vx_rows::Class;
+use vx_rows::Op;
 
-/// What an instruction of class Arithmetic, Multiply, Divide, Jump, Branch or Fence does at a pc. One of another class goes
-/// on at the next instruction.
+/// What an instruction that touches no memory does at a pc. Another one goes on at the next instruction.
 pub fn scalar(i: &Instr, regs: &Regs, pc: u64) -> Effect
     requires { NamesRegisters i.now }
     ensures { result ≡ effect i.now regs.now.x pc }
 {
     let a = regs.read(i.rs1);
     let b = regs.read(i.rs2);
-    let n = number(i.imm);
-    match i.op.class() {
-        Class::Arithmetic => Effect::Value(computed(i.op, pc, a, b, n), next(pc)),
-        Class::Multiply => Effect::Value(multiplied(i.op, a, b), next(pc)),
-        Class::Divide => Effect::Value(divided(i.op, a, b), next(pc)),
-        Class::Jump => jumped(i.op, pc, a, b, n),
-        Class::Branch => branched(i.op, pc, a, b, n),
-        _ => Effect::Next(next(pc)),
+    match i.op {
+        Op::Scalar(op) => scalar_effect(op, pc, a, b, number(i.imm)),
+        Op::Set(_) | Op::Elem(_) | Op::Widen(_) | Op::Fixed(_) => Effect::Next(next(pc)),
+        Op::Mask(_) | Op::Perm(_) | Op::Memory(_) => Effect::Next(next(pc)),
     }
 }
 

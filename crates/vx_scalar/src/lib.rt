@@ -6,11 +6,8 @@
 #![tactic(auto)]
 
 mod access;
-mod arithmetic;
-mod divide;
 mod effects;
-mod jump;
-mod multiply;
+mod operation;
 mod reading;
 mod regs;
 

@@ -87,8 +87,12 @@ footprint_as class.Store s i = accessing i (one_access s i Store true)
 footprint_as class.Fence s i = fencing
 footprint_as class.Ecall s i = stopping Serves
 footprint_as class.Ebreak s i = stopping Faults
--- no such instruction comes next
+-- these aren't executed
 footprint_as class.Csr s i = stopping Faults
+footprint_as class.Set s i = stopping Faults
+footprint_as (class.VectorArithmetic family) s i = stopping Faults
+footprint_as (class.VectorLoad addressing width) s i = stopping Faults
+footprint_as (class.VectorStore addressing width) s i = stopping Faults
 
 -- of what comes next
 abbrev pub footprint_of : Flat → Upcoming → Footprint
