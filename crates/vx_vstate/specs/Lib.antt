@@ -1,0 +1,5 @@
+pub mod Configuration
+pub mod Control
+pub mod Registers
+pub mod State
+pub mod Vtype

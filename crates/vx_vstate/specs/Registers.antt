@@ -1,0 +1,44 @@
+-- The vector registers and their elements: RISC-V "V" 1.0, sections 3.1 and 4. The 32 registers of VLEN bits are one list
+-- of words of 64 bits, those of a register one behind another; elements of any width, masks' bits too (width 1), are
+-- fields of words.
+use Rattle.std.specs.Prelude.{ℕ, ◌+◌, ◌*◌, ◌/◌, ◌%◌, ◌^◌, List, replicate, slice_index, slice_set}
+use Rattle.vx_base.specs.Numbers.{field}
+
+-- the words of a register, and of all
+abbrev pub words_of_register : (vlen : ℕ) → ℕ
+words_of_register vlen = vlen / 64
+
+abbrev pub words_of_all : (vlen : ℕ) → ℕ
+words_of_all vlen = 32 * words_of_register vlen
+
+-- registers that are 0
+unfoldable pub no_words : (vlen : ℕ) → List ℕ
+no_words vlen = replicate (words_of_all vlen) 0
+
+-- word w, counted from the first of a register on
+abbrev pub place_of : (vlen register w : ℕ) → ℕ
+place_of vlen register w = register * words_of_register vlen + w
+
+abbrev pub word_at : (vlen : ℕ) → (words : List ℕ) → (register w : ℕ) → ℕ
+word_at vlen words register w = slice_index words (place_of vlen register w)
+
+-- in which word behind a register's first an element lies, and from which bit on
+abbrev pub element_word : (width index : ℕ) → ℕ
+element_word width index = index * width / 64
+
+abbrev pub element_bit : (width index : ℕ) → ℕ
+element_bit width index = index * width % 64
+
+-- an element of a width, counted from the first of a register on
+abbrev pub element : (vlen : ℕ) → (words : List ℕ) → (register width index : ℕ) → ℕ
+element vlen words register width index = field (word_at vlen words register (element_word width index)) (element_bit width index) width
+
+-- n with the bits from `low` on, `count` of them, those of a value
+abbrev pub with_field : (n low count value : ℕ) → ℕ
+with_field n low count value = n / 2 ^ (low + count) * 2 ^ (low + count) + value % 2 ^ count * 2 ^ low + n % 2 ^ low
+
+-- the words with an element set
+abbrev pub with_element : (vlen : ℕ) → (words : List ℕ) → (register width index value : ℕ) → List ℕ
+with_element vlen words register width index value =
+    let place = place_of vlen register (element_word width index) in
+    slice_set words place (with_field (slice_index words place) (element_bit width index) width value)
