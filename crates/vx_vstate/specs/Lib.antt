@@ -2,4 +2,5 @@ pub mod Configuration
 pub mod Control
 pub mod Registers
 pub mod State
+pub mod Views
 pub mod Vtype

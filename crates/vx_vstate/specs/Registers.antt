@@ -37,8 +37,12 @@ element vlen words register width index = field (word_at vlen words register (el
 abbrev pub with_field : (n low count value : ℕ) → ℕ
 with_field n low count value = n / 2 ^ (low + count) * 2 ^ (low + count) + value % 2 ^ count * 2 ^ low + n % 2 ^ low
 
+-- the words with a word set
+abbrev pub with_word : (vlen : ℕ) → (words : List ℕ) → (register w value : ℕ) → List ℕ
+with_word vlen words register w value = slice_set words (place_of vlen register w) value
+
 -- the words with an element set
 abbrev pub with_element : (vlen : ℕ) → (words : List ℕ) → (register width index value : ℕ) → List ℕ
 with_element vlen words register width index value =
-    let place = place_of vlen register (element_word width index) in
-    slice_set words place (with_field (slice_index words place) (element_bit width index) width value)
+    let w = element_word width index in
+    with_word vlen words register w (with_field (word_at vlen words register w) (element_bit width index) width value)

@@ -2,9 +2,18 @@
 //!
 //! It stands on `vx_base`. To the crates above it gives `VState`, whose every call has its exact effect on the state;
 //! `Setting`, one instruction's view of it; `WordFile`, by which element crates read register words; and the definitions of
-//! vtype, of a configuration, of elements as fields of words, and of the control registers.
+//! vtype, of a configuration, of elements as fields of words, and of the control registers, with the laws of an element
+//! that is set and of its bytes.
 #![tactic(auto)]
 
 mod avl;
+mod configure;
+mod file;
+mod setting;
+mod state;
+mod vtype;
 
 pub use avl::Avl;
+pub use file::WordFile;
+pub use setting::Setting;
+pub use state::VState;
