@@ -1,7 +1,10 @@
-use Rattle.std.proofs.Common.{rules, refl}
+use Rattle.std.proofs.Common.{◌≡◌, List, ℕ, replicate, ◌*◌, ◌/◌, refl, ap}
 use Rattle.vx_vstate.specs.Registers.{no_words}
+use Rattle.vx_vstate.specs.State.{VectorState}
 use Rattle.vx_vstate.proofs.state.VState.new.Goals as goal
 
 pub returns : goal.returns
 unfolding no_words
-returns c = rw c.in_ok-words.ensures.items refl
+returns c =
+    let zeros : c.in_ok-words.words.items ≡ replicate (32 * (c.args.vlen / 64)) 0 = c.in_ok-words.ensures.items_if_clones_equal (λ y h. h) in
+    rw zeros refl
