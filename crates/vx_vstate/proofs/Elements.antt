@@ -58,3 +58,36 @@ element-with_other vlen words register width index value other_register other_wi
 
         last : element_bit other_width other_index + other_width ≤ element_bit width index → Goal
         last h = field-set_same words place other n (element_bit other_width other_index) other_width e (field-with_below (slice_index words place) (element_bit width index) width value (element_bit other_width other_index) other_width h)
+
+-- ---- elements that are apart
+
+pub apart-index : (vlen register width index other : ℕ) → index ≢ other → AreApart vlen register width index register width other
+apart-index vlen register width index other ne = ⊎_elim one two (cases_eq (element_word width index) (element_word width other))
+  where
+    two : (element_word width index ≡ element_word width other → ⊥) → AreApart vlen register width index register width other
+    two apart = inl (λ e. apart (omega arith))
+
+    one : element_word width index ≡ element_word width other → AreApart vlen register width index register width other
+    one e = ⊎_elim first last (cases_lt index other)
+      where
+        first : index < other → AreApart vlen register width index register width other
+        first h = let more = mul-le-mul_right {m = suc index} {n = other} width h in inr (inl (omega arith))
+
+        last : other ≤ index → AreApart vlen register width index register width other
+        last h = let less : suc other ≤ index = omega arith in let more = mul-le-mul_right {m = suc other} {n = index} width less in inr (inr (omega arith))
+
+pub apart-register : (vlen register width index other_register other_width other_index : ℕ) → register ≢ other_register → element_word width index < words_of_register vlen → element_word other_width other_index < words_of_register vlen → AreApart vlen register width index other_register other_width other_index
+apart-register vlen register width index other_register other_width other_index ne h k =
+    inl (λ e. ne (same_from_place register (element_word width index) other_register (element_word other_width other_index) (words_of_register vlen) h k e).0)
+
+-- ---- the words
+
+pub word-with_other : (vlen : ℕ) (words : List ℕ) (register width index value place : ℕ) → place_of vlen register (element_word width index) ≢ place → slice_index (with_element vlen words register width index value) place ≡ slice_index words place
+word-with_other vlen words register width index value place ne =
+    let here = place_of vlen register (element_word width index) in
+    get_or-set_other words here place (with_field (slice_index words here) (element_bit width index) width value) 0 (λ e. ne (sym e))
+
+pub length-with_element : (vlen : ℕ) (words : List ℕ) (register width index value : ℕ) → length (with_element vlen words register width index value) ≡ length words
+length-with_element vlen words register width index value =
+    let here = place_of vlen register (element_word width index) in
+    length-set words here (with_field (slice_index words here) (element_bit width index) width value)

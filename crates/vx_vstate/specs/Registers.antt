@@ -55,9 +55,12 @@ AreApart vlen register width index other_register other_width other_index =
     ⊎ (element_bit width index + width ≤ element_bit other_width other_index)
     ⊎ (element_bit other_width other_index + other_width ≤ element_bit width index)
 
--- the widths of elements that are whole bytes
+-- the widths of elements: those that are whole bytes, and a mask's
 abbrev pub is_byte_width : ℕ → Bool
 is_byte_width width = width == 8 || width == 16 || width == 32 || width == 64
+
+abbrev pub is_element_width : ℕ → Bool
+is_element_width width = width == 1 || is_byte_width width
 
 -- byte j, counted from the first of a register on, and so many bytes from j on; a register has VLEN / 8 of them
 abbrev pub byte_at : (vlen : ℕ) → (words : List ℕ) → (register j : ℕ) → ℕ

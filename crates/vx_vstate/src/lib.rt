@@ -9,11 +9,16 @@
 mod avl;
 mod configure;
 mod file;
+mod laws;
 mod setting;
 mod state;
 mod vtype;
 
 pub use avl::Avl;
 pub use file::WordFile;
+pub use laws::{
+    element_is_its_bytes, mask_bit_is_of_its_byte, other_elements_stay, other_indices_are_apart,
+    other_registers_are_apart, set_element_is_read, set_element_leaves_words,
+};
 pub use setting::Setting;
 pub use state::VState;
