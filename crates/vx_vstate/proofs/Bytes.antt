@@ -39,7 +39,7 @@ element-from_bytes vlen words register width count index b h wide in_word in_byt
     (λ i. field (slice_index words place) (in_byte i) (wide i))
     ∙ sym (bytes-in_word vlen words register (index * count) count place b (omega arith) fits)
 
-by_width : (P : ℕ → Type 0) (width : ℕ) → P 8 → P 16 → P 32 → P 64 → IsTrue (is_byte_width width) → P width
+pub by_width : (P : ℕ → Type 0) (width : ℕ) → P 8 → P 16 → P 32 → P 64 → IsTrue (is_byte_width width) → P width
 by_width P width p8 p16 p32 p64 h =
     let cases : (width ≡ 8) ⊎ ((width ≡ 16) ⊎ ((width ≡ 32) ⊎ (width ≡ 64))) = grind (arith, nat_tests, h) in
     ⊎_elim (λ e. subst P (sym e) p8) (⊎_elim (λ e. subst P (sym e) p16) (⊎_elim (λ e. subst P (sym e) p32) (λ e. subst P (sym e) p64))) cases

@@ -1,5 +1,6 @@
 pub mod Configuration
 pub mod Control
+pub mod Groups
 pub mod Registers
 pub mod State
 pub mod Views

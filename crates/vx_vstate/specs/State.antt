@@ -55,8 +55,8 @@ abbrev pub setting_of : VectorState → (scalar : ℕ) → SettingView
 setting_of s scalar = record { vlen = s.vlen; vl = s.vl; vtype = s.vtype; vstart = s.vstart; vxrm = s.vxrm; scalar = scalar }
 
 -- a view after a configuration
-abbrev pub with_setting_in : SettingView → Avl → (wanted : ℕ) → SettingView
-with_setting_in s avl wanted =
+abbrev pub reconfigured : SettingView → Avl → (wanted : ℕ) → SettingView
+reconfigured s avl wanted =
     let c = configured s.vlen (record { vl = s.vl; vtype = s.vtype }) avl wanted in
     record s { vl = c.vl; vtype = c.vtype; vstart = 0 }
 

@@ -2,7 +2,9 @@ ghost use Rattle.std.specs.Prelude.{◌≡◌, ◌≤◌, IsTrue};
 ghost use Rattle.vx_base.specs.Options.{is_register_length};
 ghost use Rattle.vx_vstate.specs.Vtype.{is_vtype, is_accepted as accepts, most_elements, vlmax as vlmax_of};
 ghost use Rattle.vx_vstate.specs.Configuration.{
-    configured, is_lost as is_kept_in_vain, length_for as length_by
+  configured,
+  is_lost as is_kept_in_vain,
+  length_for as length_by,
 };
 
 use crate::avl::Avl;

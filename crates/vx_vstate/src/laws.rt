@@ -1,9 +1,21 @@
-ghost use Rattle.std.specs.Prelude.{◌≡◌, ◌≢◌, ℕ, ◌*◌, ◌/◌, ◌%◌, ◌^◌, ◌<◌, List, length, slice_index, IsTrue};
+ghost use Rattle.std.specs.Prelude.{◌≡◌, ◌≢◌, ℕ, ◌*◌, ◌/◌, ◌%◌, ◌^◌, ◌<◌, ◌≤◌, List, length, slice_index, IsTrue};
+ghost use Rattle.vx_vstate.specs.State.{VectorState, with_setting, setting_of, reconfigured};
+ghost use Rattle.vx_vstate.specs.Groups.{emul_eighths, registers_of_group};
+ghost use Rattle.vx_vstate.specs.Vtype.{vlmax};
+ghost use Rattle.vx_vstate.specs.declared.avl.Avl.{Avl};
 ghost use Rattle.vx_base.specs.Numbers.{field, from_little_endian};
 ghost use Rattle.vx_base.specs.Options.{is_register_length};
 ghost use Rattle.vx_vstate.specs.Registers.{
-    words_of_register, place_of, element, element_word, with_element, AreApart, is_byte_width, is_element_width, byte_at,
-    bytes_at
+  words_of_register,
+  place_of,
+  element,
+  element_word,
+  with_element,
+  AreApart,
+  is_byte_width,
+  is_element_width,
+  byte_at,
+  bytes_at,
 };
 
 /// An element that was set reads as set: as the value reduced to its width.
@@ -42,4 +54,16 @@ pub fn element_is_its_bytes()
 /// Bit i of a mask, its element i of one bit, is bit i % 8 of byte i / 8.
 pub fn mask_bit_is_of_its_byte()
     ensures { (vlen : ℕ) (words : List ℕ) (register index : ℕ) → IsTrue (is_register_length vlen) → element vlen words register 1 index ≡ field (byte_at vlen words register (index / 8)) (index % 8) 1 }
+{}
+
+/// The elements of a group lie in its registers: those below VLMAX, at a width whose group isn't below an eighth of a
+/// register. A mask's bits below VLMAX lie in its one register.
+pub fn elements_lie_in_their_group()
+    ensures group { (vlen vtype width index : ℕ) → IsTrue (is_register_length vlen) → IsTrue (is_byte_width width) → 1 ≤ emul_eighths vtype width → index < vlmax vlen vtype → element_word width index < registers_of_group (emul_eighths vtype width) * words_of_register vlen }
+    ensures mask { (vlen vtype index : ℕ) → IsTrue (is_register_length vlen) → index < vlmax vlen vtype → element_word 1 index < words_of_register vlen }
+{}
+
+/// A configuration does to an instruction's view of a state what it does to the state.
+pub fn views_are_configured_alike()
+    ensures { (state : VectorState) (scalar : ℕ) (avl : Avl) (wanted : ℕ) → setting_of (with_setting state avl wanted) scalar ≡ reconfigured (setting_of state scalar) avl wanted }
 {}

@@ -12,13 +12,16 @@ mod file;
 mod laws;
 mod setting;
 mod state;
+#[cfg(test)]
+mod tests;
 mod vtype;
 
 pub use avl::Avl;
 pub use file::WordFile;
 pub use laws::{
-    element_is_its_bytes, mask_bit_is_of_its_byte, other_elements_stay, other_indices_are_apart,
-    other_registers_are_apart, set_element_is_read, set_element_leaves_words,
+    element_is_its_bytes, elements_lie_in_their_group, mask_bit_is_of_its_byte,
+    other_elements_stay, other_indices_are_apart, other_registers_are_apart, set_element_is_read,
+    set_element_leaves_words, views_are_configured_alike,
 };
 pub use setting::Setting;
 pub use state::VState;

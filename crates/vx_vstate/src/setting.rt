@@ -1,7 +1,13 @@
 ghost use Rattle.std.specs.Prelude.{◌≡◌, ◌≤◌, ◌<◌, IsTrue, ◌==◌};
 ghost use Rattle.vx_base.specs.Options.{is_register_length};
+ghost use Rattle.vx_vstate.specs.Registers.{is_byte_width};
 ghost use Rattle.vx_vstate.specs.Vtype.{
-    vill, is_vtype, most_elements, sew as sew_of, lmul_eighths as lmul_eighths_of, vlmax as vlmax_of
+  vill,
+  is_vtype,
+  most_elements,
+  sew as sew_of,
+  lmul_eighths as lmul_eighths_of,
+  vlmax as vlmax_of,
 };
 
 use crate::avl::Avl;
@@ -31,13 +37,13 @@ pub struct Setting {
 }
 
 impl Setting {
-    ghost use Rattle.vx_vstate.specs.State.{with_setting_in};
+    ghost use Rattle.vx_vstate.specs.State.{reconfigured};
     ghost use Rattle.vx_vstate.specs.Views.{view_of};
 
     /// Configures by an application's length and a wanted vtype (RISC-V "V" 1.0, section 6): sets vl and vtype, and
     /// vstart to 0. Answers the new vl.
     pub fn set_vl(&mut self, avl: Avl, vtype: u64) -> u64
-        ensures becomes { view_of self.new ≡ with_setting_in (view_of self.old) avl vtype }
+        ensures becomes { view_of self.new ≡ reconfigured (view_of self.old) avl vtype }
         ensures answers { result ≡ self.new.vl }
     {
         let old = Configured {
@@ -51,23 +57,28 @@ impl Setting {
         u64::from(new.vl)
     }
 
-    /// SEW, the width of an element in bits.
+    /// SEW, the width of an element in bits: 8, 16, 32 or 64.
     pub fn sew(&self) -> u32
-        ensures { result ≡ sew_of self.now.vtype }
+        ensures is { result ≡ sew_of self.now.vtype }
+        ensures in_range { IsTrue (is_byte_width result) }
     {
         sew(self.vtype)
     }
 
-    /// LMUL, the registers of a group, in eighths.
+    /// LMUL, the registers of a group, in eighths: 1 to 64.
     pub fn lmul_eighths(&self) -> u32
-        ensures { result ≡ lmul_eighths_of self.now.vtype }
+        ensures is { result ≡ lmul_eighths_of self.now.vtype }
+        ensures positive { 1 ≤ result }
+        ensures in_range { result ≤ 64 }
     {
         lmul_eighths(self.vtype)
     }
 
-    /// VLMAX, the elements of a group: LMUL * VLEN / SEW.
+    /// VLMAX, the elements of a group: LMUL * VLEN / SEW. It is at most VLEN, and vl is at most VLMAX.
     pub fn vlmax(&self) -> u32
-        ensures { result ≡ vlmax_of self.now.vlen self.now.vtype }
+        ensures is { result ≡ vlmax_of self.now.vlen self.now.vtype }
+        ensures in_range { result ≤ self.now.vlen }
+        ensures holds_vl { self.now.vl ≤ result }
     {
         vlmax(self.vlen, self.vtype)
     }

@@ -168,9 +168,10 @@ impl VState {
         self.vl = vl;
     }
 
-    /// Bits of a vector register.
+    /// Bits of a vector register. Whatever is true of every state is so of this one.
     pub fn vlen(&self) -> u32
-        ensures { result ≡ self.now.vlen }
+        ensures is { result ≡ self.now.vlen }
+        ensures in_range { IsVectorState self.now }
     {
         self.vlen
     }

@@ -1,7 +1,11 @@
 ghost use Rattle.std.specs.Prelude.{◌≡◌};
 ghost use Rattle.vx_vstate.specs.Vtype.{
-    vlmul as vlmul_of, vsew as vsew_of, sew as sew_of, lmul_eighths as lmul_eighths_of, is_accepted as accepts,
-    is_same_ratio as have_one_ratio
+  vlmul as vlmul_of,
+  vsew as vsew_of,
+  sew as sew_of,
+  lmul_eighths as lmul_eighths_of,
+  is_accepted as accepts,
+  is_same_ratio as have_one_ratio,
 };
 
 /// The vtype of a configuration that isn't supported: bit 63, vill, alone (RISC-V "V" 1.0, section 3.4.4).
@@ -45,7 +49,10 @@ pub fn lmul_eighths(vtype: u64) -> u32
 pub fn is_accepted(vtype: u64) -> bool
     ensures { result ≡ accepts vtype }
 {
-    vtype < 256 && vlmul(vtype) != 4 && vsew(vtype) <= 3 && 8 * sew(vtype) <= 64 * lmul_eighths(vtype)
+    vtype < 256
+        && vlmul(vtype) != 4
+        && vsew(vtype) <= 3
+        && 8 * sew(vtype) <= 64 * lmul_eighths(vtype)
 }
 
 /// Whether two vtypes have one ratio of SEW to LMUL.
