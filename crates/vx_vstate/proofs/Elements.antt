@@ -1,11 +1,11 @@
 -- Elements of the registers, of which one is set.
-use Rattle.std.proofs.Common.{◌≡◌, ℕ, suc, ◌+◌, ◌*◌, ◌/◌, ◌%◌, ◌^◌, ◌<◌, ◌≤◌, ◌≢◌, ◌⊎◌, ⊎_elim, inl, inr, List, length, get_or, set, slice_index, slice_set, sym, ap, ◌∙◌, arith}
+use Rattle.std.proofs.Common.{◌≡◌, ℕ, suc, ◌+◌, ◌%◌, ◌^◌, ◌<◌, ◌≤◌, ◌≢◌, ⊎_elim, inl, inr, List, length, slice_index, slice_set, sym, ap, ◌∙◌, arith}
 use Rattle.std.proofs.lemmas.List.{get_or-set_same, get_or-set_other, length-set, set_past}
 use Rattle.std.proofs.lemmas.Bool.{cases_lt, cases_eq}
 use Rattle.std.proofs.lemmas.Nat.{same_from_place}
 use Rattle.std.proofs.Math.Nat.{mul-le-mul_right}
 use Rattle.vx_base.specs.Numbers.{field}
-use Rattle.vx_vstate.specs.Registers.{words_of_register, place_of, word_at, element_word, element_bit, element, with_field, with_element, AreApart}
+use Rattle.vx_vstate.specs.Registers.{words_of_register, place_of, element_word, element_bit, element, with_field, with_element, AreApart}
 use Rattle.vx_vstate.proofs.Fields.{field-with_same, field-with_below, field-with_above}
 
 pub element-with_same : (vlen : ℕ) (words : List ℕ) (register width index value : ℕ) → place_of vlen register (element_word width index) < length words → element vlen (with_element vlen words register width index value) register width index ≡ value % 2 ^ width

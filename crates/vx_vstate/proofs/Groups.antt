@@ -1,14 +1,14 @@
 -- Groups of registers and the places of their elements.
-use Rattle.std.proofs.Common.{◌≡◌, ℕ, zero, suc, ◌+◌, ◌-◌, ◌*◌, ◌/◌, ◌^◌, ◌<◌, ◌≤◌, ⊎_elim, max, Bool, true, false, IsTrue, if◌then◌else◌, nat_lt, refl, sym, ap, ◌∙◌, arith, pow_pos, pow_mono}
+use Rattle.std.proofs.Common.{◌≡◌, ℕ, zero, suc, ◌+◌, ◌-◌, ◌*◌, ◌/◌, ◌^◌, ◌<◌, ◌≤◌, ⊎_elim, Bool, true, false, IsTrue, if◌then◌else◌, nat_lt, refl, sym, ap, ◌∙◌, arith, pow_pos, pow_mono}
 use Rattle.std.proofs.lemmas.Bool.{cases_lt, cases_Bool}
 use Rattle.std.proofs.lemmas.Bool.Decides.{nat_tests}
-use Rattle.std.proofs.lemmas.Nat.{pow-add, pow_below, div_below, mul-le}
+use Rattle.std.proofs.lemmas.Nat.{pow-add, pow_below, div_below}
 use Rattle.std.proofs.Math.Nat.{mul-div_cancel, mul-le-mul_right, div-mul-le_self, le_of_mul-le-mul_right}
 use Rattle.vx_base.specs.Options.{is_register_length}
 use Rattle.vx_vstate.specs.Vtype.{vlmul, vsew, sew, lmul_eighths, vlmax, is_vtype}
 use Rattle.vx_vstate.specs.Groups.{emul_eighths, registers_of_group}
 use Rattle.vx_vstate.specs.Registers.{words_of_register, element_word, is_byte_width}
-use Rattle.vx_vstate.proofs.Bytes.{by_width, length-bytes}
+use Rattle.vx_vstate.proofs.Bytes.{by_width}
 
 -- ---- the range of SEW, of LMUL and of VLMAX
 

@@ -1,9 +1,9 @@
 -- VLMAX under two vtypes, and the bounds of vl.
-use Rattle.std.proofs.Common.{◌≡◌, ℕ, ◌+◌, ◌*◌, ◌/◌, ◌^◌, ◌<◌, ◌≤◌, Bool, true, false, not, ◌||◌, ◌==◌, IsTrue, if◌then◌else◌, refl, sym, ap, ◌∙◌, arith, pow_pos}
+use Rattle.std.proofs.Common.{◌≡◌, ℕ, ◌+◌, ◌*◌, ◌/◌, ◌^◌, ◌<◌, ◌≤◌, Bool, false, ◌==◌, IsTrue, if◌then◌else◌, sym, ap, ◌∙◌, arith, pow_pos}
 use Rattle.std.proofs.Math.Nat.{mul-div-mul_right}
 use Rattle.std.proofs.lemmas.Nat.{pow-add}
 use Rattle.std.proofs.lemmas.Bool.Decides.{nat_tests}
-use Rattle.vx_vstate.specs.Vtype.{vill, vsew, sew, lmul_eighths, vlmax, is_accepted, is_same_ratio, most_elements}
+use Rattle.vx_vstate.specs.Vtype.{vill, vsew, sew, lmul_eighths, vlmax, is_accepted, most_elements}
 use Rattle.vx_vstate.specs.Configuration.{length_for, is_lost}
 use Rattle.vx_vstate.specs.declared.avl.Avl.{Avl}
 use Rattle.vx_vstate.specs.declared.avl.Avl.TheVariants.{Value, Max, Keep}

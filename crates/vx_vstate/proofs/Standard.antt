@@ -1,11 +1,10 @@
 -- The definitions at numbers that were worked out by the standard: RISC-V "V" 1.0, sections 3.4, 6.1 and 6.2.
-use Rattle.std.proofs.Common.{◌≡◌, ℕ, ◌+◌, ◌-◌, ◌*◌, ◌^◌, Bool, true, false, List, [], ◌∷◌, ◌++◌, map, replicate, refl}
+use Rattle.std.proofs.Common.{◌≡◌, ℕ, ◌+◌, ◌-◌, ◌*◌, ◌^◌, List, [], ◌∷◌, ◌++◌, map, refl}
 use Rattle.std.specs.Prelude.{filter}
 use Rattle.std.specs.List.{range_with_len}
 use Rattle.vx_vstate.specs.Vtype.{vill, vlmax, is_accepted}
 use Rattle.vx_vstate.specs.Configuration.{Configuration, configured}
-use Rattle.vx_vstate.specs.declared.avl.Avl.{Avl}
-use Rattle.vx_vstate.specs.declared.avl.Avl.TheVariants.{Value, Max, Keep}
+use Rattle.vx_vstate.specs.declared.avl.Avl.TheVariants.{Value}
 
 -- the vtypes: e8 at mf8 to m8, e16 at mf4 to m8, e32 at mf2 to m8, e64 at m1 to m8
 abbrev settings : List ℕ

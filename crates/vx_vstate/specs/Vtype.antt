@@ -1,6 +1,6 @@
 -- vtype, and what it says of elements and groups: RISC-V "V" 1.0, section 3.4. Which numbers are accepted is that
 -- section's, for elements of 64 bits at the most (section 18.2, Zve64x).
-use Rattle.std.specs.Prelude.{ℕ, ◌+◌, ◌-◌, ◌*◌, ◌/◌, ◌^◌, Bool, not, ◌==◌, ◌&&◌, ◌||◌, nat_lt, nat_le, if◌then◌else◌}
+use Rattle.std.specs.Prelude.{ℕ, ◌-◌, ◌*◌, ◌/◌, ◌^◌, Bool, not, ◌==◌, ◌&&◌, ◌||◌, nat_lt, nat_le, if◌then◌else◌}
 use Rattle.vx_base.specs.Numbers.{field}
 
 -- the vtype of a configuration that isn't supported: vill, bit 63, alone

@@ -1,5 +1,5 @@
-use Rattle.std.proofs.Common.{rules, sym, ◌∙◌, ap, IsTrue, ◌≡◌, false, ◌≤◌, ◌<◌, subst, arith}
-use Rattle.vx_vstate.specs.Vtype.{is_accepted, vlmax}
+use Rattle.std.proofs.Common.{rules, IsTrue, ◌≡◌, false}
+use Rattle.vx_vstate.specs.Vtype.{is_accepted}
 use Rattle.vx_vstate.specs.Configuration.{is_lost}
 use Rattle.vx_vstate.proofs.Lengths.{length-le}
 use Rattle.vx_vstate.proofs.configure.configure.Goals as goal

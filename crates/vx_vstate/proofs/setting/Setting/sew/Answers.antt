@@ -1,4 +1,4 @@
-use Rattle.std.proofs.Common.{ap, subst, sym, IsTrue, ℕ}
+use Rattle.std.proofs.Common.{subst, sym, IsTrue, ℕ}
 use Rattle.vx_vstate.specs.Registers.{is_byte_width}
 use Rattle.vx_vstate.proofs.Groups.{sew-width}
 use Rattle.vx_vstate.proofs.setting.Setting.sew.Goals as goal

@@ -1,6 +1,5 @@
-use Rattle.std.proofs.Common.{◌≡◌, List, ℕ, replicate, ◌*◌, ◌/◌, refl, ap}
+use Rattle.std.proofs.Common.{◌≡◌, replicate, ◌*◌, ◌/◌, refl}
 use Rattle.vx_vstate.specs.Registers.{no_words}
-use Rattle.vx_vstate.specs.State.{VectorState}
 use Rattle.vx_vstate.proofs.state.VState.new.Goals as goal
 
 pub returns : goal.returns
