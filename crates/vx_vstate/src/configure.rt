@@ -1,10 +1,10 @@
 ghost use Rattle.std.specs.Prelude.{◌≡◌, ◌≤◌, IsTrue};
 ghost use Rattle.vx_base.specs.Options.{is_register_length};
-ghost use Rattle.vx_vstate.specs.Vtype.{is_vtype, is_accepted as accepts, most_elements, vlmax as vlmax_of};
+ghost use Rattle.vx_vstate.specs.Vtype.{is_vtype, most_elements, vlmax};
 ghost use Rattle.vx_vstate.specs.Configuration.{
   configured,
-  is_lost as is_kept_in_vain,
-  length_for as length_by,
+  is_lost,
+  length_for,
 };
 
 use crate::avl::Avl;
@@ -20,14 +20,14 @@ pub struct Configured {
 /// VLMAX, the elements of a group: LMUL * VLEN / SEW (RISC-V "V" 1.0, section 3.4.2).
 pub fn vlmax(vlen: u32, vtype: u64) -> u32
     requires { IsTrue (is_register_length vlen) }
-    ensures { result ≡ vlmax_of vlen vtype }
+    ensures { result ≡ vlmax vlen vtype }
 {
     (lmul_eighths(vtype) * vlen) >> (vsew(vtype) + 6)
 }
 
 /// Whether vl can't be kept under the wanted vtype.
 fn is_lost(avl: Avl, old: u64, wanted: u64) -> bool
-    ensures { result ≡ is_kept_in_vain avl old wanted }
+    ensures { result ≡ is_lost avl old wanted }
 {
     match avl {
         Avl::Keep => old == VILL || !is_same_ratio(old, wanted),
@@ -37,7 +37,7 @@ fn is_lost(avl: Avl, old: u64, wanted: u64) -> bool
 
 /// vl under a vtype that is accepted and has this VLMAX.
 fn length_for(avl: Avl, most: u32, old: u32) -> u32
-    ensures { result ≡ length_by avl most old }
+    ensures { result ≡ length_for avl most old }
 {
     match avl {
         Avl::Value(n) => n.min(u64::from(most)) as u32,

@@ -5,9 +5,9 @@ ghost use Rattle.vx_vstate.specs.Vtype.{
   vill,
   is_vtype,
   most_elements,
-  sew as sew_of,
-  lmul_eighths as lmul_eighths_of,
-  vlmax as vlmax_of,
+  sew,
+  lmul_eighths,
+  vlmax,
 };
 
 use crate::avl::Avl;
@@ -59,7 +59,7 @@ impl Setting {
 
     /// SEW, the width of an element in bits: 8, 16, 32 or 64.
     pub fn sew(&self) -> u32
-        ensures is { result ≡ sew_of self.now.vtype }
+        ensures is { result ≡ sew self.now.vtype }
         ensures in_range { IsTrue (is_byte_width result) }
     {
         sew(self.vtype)
@@ -67,7 +67,7 @@ impl Setting {
 
     /// LMUL, the registers of a group, in eighths: 1 to 64.
     pub fn lmul_eighths(&self) -> u32
-        ensures is { result ≡ lmul_eighths_of self.now.vtype }
+        ensures is { result ≡ lmul_eighths self.now.vtype }
         ensures positive { 1 ≤ result }
         ensures in_range { result ≤ 64 }
     {
@@ -76,7 +76,7 @@ impl Setting {
 
     /// VLMAX, the elements of a group: LMUL * VLEN / SEW. It is at most VLEN, and vl is at most VLMAX.
     pub fn vlmax(&self) -> u32
-        ensures is { result ≡ vlmax_of self.now.vlen self.now.vtype }
+        ensures is { result ≡ vlmax self.now.vlen self.now.vtype }
         ensures in_range { result ≤ self.now.vlen }
         ensures holds_vl { self.now.vl ≤ result }
     {

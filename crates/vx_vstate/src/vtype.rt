@@ -1,40 +1,33 @@
 ghost use Rattle.std.specs.Prelude.{◌≡◌};
-ghost use Rattle.vx_vstate.specs.Vtype.{
-  vlmul as vlmul_of,
-  vsew as vsew_of,
-  sew as sew_of,
-  lmul_eighths as lmul_eighths_of,
-  is_accepted as accepts,
-  is_same_ratio as have_one_ratio,
-};
+ghost use Rattle.vx_vstate.specs.Vtype.{vlmul, vsew, sew, lmul_eighths, is_accepted, is_same_ratio};
 
 /// The vtype of a configuration that isn't supported: bit 63, vill, alone (RISC-V "V" 1.0, section 3.4.4).
 pub const VILL: u64 = 0x8000_0000_0000_0000;
 
 /// The field vlmul, bits 2:0.
 fn vlmul(vtype: u64) -> u32
-    ensures { result ≡ vlmul_of vtype }
+    ensures { result ≡ vlmul vtype }
 {
     (vtype % 8) as u32
 }
 
 /// The field vsew, bits 5:3.
 pub fn vsew(vtype: u64) -> u32
-    ensures { result ≡ vsew_of vtype }
+    ensures { result ≡ vsew vtype }
 {
     (vtype / 8 % 8) as u32
 }
 
 /// SEW, the width of an element in bits.
 pub fn sew(vtype: u64) -> u32
-    ensures { result ≡ sew_of vtype }
+    ensures { result ≡ sew vtype }
 {
     8 << vsew(vtype)
 }
 
 /// LMUL, the registers of a group, in eighths.
 pub fn lmul_eighths(vtype: u64) -> u32
-    ensures { result ≡ lmul_eighths_of vtype }
+    ensures { result ≡ lmul_eighths vtype }
 {
     let field = vlmul(vtype);
     if field < 4 {
@@ -47,7 +40,7 @@ pub fn lmul_eighths(vtype: u64) -> u32
 /// Whether a vtype is accepted: no bit but those of its four fields is set, neither field is reserved, and SEW isn't
 /// above 64 * LMUL (RISC-V "V" 1.0, section 3.4, for elements of 64 bits at the most).
 pub fn is_accepted(vtype: u64) -> bool
-    ensures { result ≡ accepts vtype }
+    ensures { result ≡ is_accepted vtype }
 {
     vtype < 256
         && vlmul(vtype) != 4
@@ -57,7 +50,7 @@ pub fn is_accepted(vtype: u64) -> bool
 
 /// Whether two vtypes have one ratio of SEW to LMUL.
 pub fn is_same_ratio(a: u64, b: u64) -> bool
-    ensures { result ≡ have_one_ratio a b }
+    ensures { result ≡ is_same_ratio a b }
 {
     sew(a) * lmul_eighths(b) == sew(b) * lmul_eighths(a)
 }
