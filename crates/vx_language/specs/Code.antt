@@ -3,15 +3,13 @@
 -- this project's own.
 use Rattle.std.specs.Prelude.{ℕ, ◌+◌, ◌^◌, ℤ, pos, ◌+ℤ◌, unsigned_abs, List, [], ◌∷◌, flat_map, Option, Some, unwrap_or, if◌then◌else◌}
 use Rattle.vx_base.specs.Numbers.{reduced, signed, field, little_endian}
-use Rattle.vx_decode.specs.Decoded.{scalar_instr}
-use Rattle.vx_decode.specs.Encoded.{operand_bits_of}
+use Rattle.vx_decode.specs.Encoded.{word_of}
 use Rattle.vx_decode.specs.declared.instr.Instr.{Instr}
-use Rattle.vx_rows.specs.Table.{value_of, shape_of}
 use Rattle.vx_rows.specs.declared.op.Op.TheVariants.{Scalar}
 use Rattle.vx_rows.specs.declared.op.ScalarOp.TheVariants.{Lui, Auipc, Addi, Addiw}
 use Rattle.vx_language.specs.Lexemes.{Piece, is_a}
 use Rattle.vx_language.specs.Numerals.{number_value}
-use Rattle.vx_language.specs.Names.{register_number, control_number}
+use Rattle.vx_language.specs.Names.{register_number, control_number, scalar_instr}
 use Rattle.vx_language.specs.Slots.{Slot, Rd, Rs1, Rs2, Immediate, SourceField, Offset, Label, ControlRegister, signed_range, is_within}
 use Rattle.vx_language.specs.declared.token.TokenKind.TheVariants as token
 
@@ -71,10 +69,6 @@ expanded LoadsNumber i =
     else scalar_instr (Scalar Lui) i.rd 0 0 (upper_part i.imm) ∷ scalar_instr (Scalar Addiw) i.rd i.rd 0 (lower_part i.imm) ∷ []
 expanded LoadsAddress i =
     scalar_instr (Scalar Auipc) i.rd 0 0 (upper_part i.imm) ∷ scalar_instr (Scalar Addi) i.rd i.rd 0 (lower_part i.imm) ∷ []
-
--- the word of an instruction: the fixed bits of its row and those of its operands
-unfoldable pub word_of : Instr → ℕ
-word_of i = value_of i.op + operand_bits_of (shape_of i.op) i
 
 -- the bytes of instructions, each a word of four, the least first
 unfoldable pub instr_bytes : List Instr → List ℕ

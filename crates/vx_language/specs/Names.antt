@@ -1,11 +1,9 @@
 -- The names that a source may use: the integer registers' (RISC-V psABI, integer register convention; RISC-V Unprivileged
 -- ISA 20191213, section 2.1), the control registers' (RISC-V "V" 1.0, section 3) and the rows' mnemonics.
-use Rattle.std.specs.Prelude.{ℕ, pos, List, [], ◌∷◌, find, position, codes, bytes_eq, Option, option_map}
+use Rattle.std.specs.Prelude.{ℕ, ℤ, pos, true, List, [], ◌∷◌, find, position, codes, bytes_eq, Option, option_map}
 use Rattle.std.specs.Option.{option_or}
-use Rattle.vx_decode.specs.Decoded.{scalar_instr}
 use Rattle.vx_decode.specs.declared.instr.Instr.{Instr}
-use Rattle.vx_rows.specs.Names.{mnemonic}
-use Rattle.vx_rows.specs.Table.{operations}
+use Rattle.vx_rows.specs.Table.{mnemonic, operations}
 use Rattle.vx_rows.specs.declared.op.Op.{Op}
 use Rattle.vx_source.specs.Names.{register_names, NamedControl, named_controls}
 
@@ -25,6 +23,10 @@ register_number name = option_or (position (bytes_eq name) register_names) (posi
 -- the number of the control register of this name, where one has it
 unfoldable pub control_number : List ℕ → Option ℕ
 control_number name = option_map (λ (c : NamedControl). c.number) (find (λ (c : NamedControl). bytes_eq name c.name) named_controls)
+
+-- an operation's instruction with these operands, and no others
+abbrev pub scalar_instr : Op → (rd rs1 rs2 : ℕ) → ℤ → Instr
+scalar_instr op rd rs1 rs2 imm = record { op = op; rd = rd; rs1 = rs1; rs2 = rs2; imm = imm; vm = true; nf = 0 }
 
 -- an operation's instruction, without operands yet
 abbrev pub bare_instr : Op → Instr
