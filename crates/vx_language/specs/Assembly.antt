@@ -2,11 +2,7 @@
 use Rattle.std.specs.Prelude.{◌≡◌, ℕ, ◌+◌, ◌^◌, ◌<◌, Bool, true, false, ◌==◌, ℤ, List, [], ◌∷◌, ◌++◌, length, map, flat_map, filter, codes, bytes_eq, Contains, Option, Some, None, unwrap_or, if◌then◌else◌}
 use Rattle.std.specs.List.{list_any, list_all}
 use Rattle.vx_base.specs.Numbers.{little_endian}
-use Rattle.vx_decode.specs.Decoded.{decoded}
-use Rattle.vx_decode.specs.declared.instr.Instr.{Instr}
 use Rattle.vx_elf.specs.declared.program.Program.{Program}
-use Rattle.vx_rows.specs.declared.op.Op.{Op}
-use Rattle.vx_rows.specs.declared.op.Op.TheVariants.{Scalar}
 use Rattle.vx_source.specs.Lines.{line_of}
 use Rattle.vx_language.specs.Faults.{fault_at, first_of}
 use Rattle.vx_language.specs.Forms.{Section, OfCode, OfVariables}
@@ -121,14 +117,6 @@ pub record IsSourceOf (source : List ℕ) (word : ℕ) : Type 0 where
   pub faultless : faults source ≡ []
   pub code : (assembled source).code ≡ little_endian 4 word
 
--- the instruction is one of RV64I, M and Zicsr
-abbrev pub IsScalar : Op → Type 0
-IsScalar (Scalar op) = Unit {0}
-
-abbrev pub IsScalarOrNone : Option Instr → Type 0
-IsScalarOrNone None = Unit {0}
-IsScalarOrNone (Some i) = IsScalar i.op
-
--- the canonical line of each word of 32 bits that means such an instruction, or none, is a source of that word
+-- the canonical line of each word of 32 bits is a source of that word
 abbrev pub LinesAreSources : Type 0
-LinesAreSources = (word : ℕ) → word < 2 ^ 32 → IsScalarOrNone (decoded word) → IsSourceOf (line_of word) word
+LinesAreSources = (word : ℕ) → word < 2 ^ 32 → IsSourceOf (line_of word) word
