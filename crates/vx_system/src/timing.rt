@@ -63,7 +63,8 @@ pub fn is_service(next: Upcoming) -> bool
     match next {
         Upcoming::Instruction(i) => match i.op.class() {
             Class::Ecall => true,
-            Class::Arithmetic | Class::Multiply | Class::Divide | Class::Jump | Class::Branch => false,
+            Class::Arithmetic | Class::Multiply | Class::Divide | Class::Jump | Class::Branch =>
+                false,
             Class::Load | Class::Store | Class::Fence | Class::Ebreak => false,
             Class::Csr | Class::Set | Class::VectorArithmetic(_) => false,
             Class::VectorLoad(_, _) | Class::VectorStore(_, _) => false,
