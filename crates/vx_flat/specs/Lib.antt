@@ -1,5 +1,6 @@
 pub mod Access
 pub mod Boot
+pub mod Classes
 pub mod Memory
 pub mod Process
 pub mod Run

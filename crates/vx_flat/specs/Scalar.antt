@@ -79,10 +79,10 @@ abbrev passes : ℕ → Work
 passes pc = Acts (Next (next_pc pc))
 
 -- the value of a load: the number, or the number sign-extended from its width
-abbrev whole : ℕ → ℕ
+abbrev pub whole : ℕ → ℕ
 whole n = n
 
-abbrev sign_extended : (width : ℕ) → ℕ → ℕ
+abbrev pub sign_extended : (width : ℕ) → ℕ → ℕ
 sign_extended width n = reduced 64 (signed_at width n)
 
 -- what each scalar operation does, of the pc, a, b and n

@@ -12,5 +12,5 @@ mod upcoming;
 
 pub use effect::Effect;
 pub use end::End;
-pub use laws::output_only_grows;
+pub use laws::{operations_do_as_their_class, output_only_grows};
 pub use upcoming::Upcoming;

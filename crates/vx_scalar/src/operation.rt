@@ -66,10 +66,21 @@ pub fn scalar_effect(op: ScalarOp, pc: u64, a: u64, b: u64, n: u64) -> Effect
         ScalarOp::Divuw => puts(extend(divu_at(32, a, b)), pc),
         ScalarOp::Remw => puts(extend(rem_at(32, a, b)), pc),
         ScalarOp::Remuw => puts(extend(remu_at(32, a, b)), pc),
-        ScalarOp::Lb | ScalarOp::Lh | ScalarOp::Lw | ScalarOp::Ld | ScalarOp::Lbu | ScalarOp::Lhu | ScalarOp::Lwu => Effect::Next(next(pc)),
+        ScalarOp::Lb
+        | ScalarOp::Lh
+        | ScalarOp::Lw
+        | ScalarOp::Ld
+        | ScalarOp::Lbu
+        | ScalarOp::Lhu
+        | ScalarOp::Lwu => Effect::Next(next(pc)),
         ScalarOp::Sb | ScalarOp::Sh | ScalarOp::Sw | ScalarOp::Sd => Effect::Next(next(pc)),
         ScalarOp::Fence | ScalarOp::Ecall | ScalarOp::Ebreak => Effect::Next(next(pc)),
-        ScalarOp::Csrrw | ScalarOp::Csrrs | ScalarOp::Csrrc | ScalarOp::Csrrwi | ScalarOp::Csrrsi | ScalarOp::Csrrci => Effect::Next(next(pc)),
+        ScalarOp::Csrrw
+        | ScalarOp::Csrrs
+        | ScalarOp::Csrrc
+        | ScalarOp::Csrrwi
+        | ScalarOp::Csrrsi
+        | ScalarOp::Csrrci => Effect::Next(next(pc)),
     }
 }
 

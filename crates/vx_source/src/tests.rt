@@ -4,7 +4,10 @@ use vx_rows::Shape;
 #[test]
 fn tells_operands_and_names(rt: HostRuntime) {
     let kinds = operand_kinds(Shape::Store);
-    assert!(rt; kinds.is_some_and(|kinds| kinds == [OperandKind::SecondSource, OperandKind::Address].as_slice()));
+    assert!(rt;
+        kinds.is_some_and(|kinds| kinds
+            == [OperandKind::SecondSource, OperandKind::Address].as_slice())
+    );
     assert!(rt; operand_kinds(Shape::SetRegister).is_none());
     assert_eq!(rt; register_name(8), "s0");
     assert_eq!(rt; register_name(31), "t6");

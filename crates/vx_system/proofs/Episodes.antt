@@ -5,6 +5,7 @@ use Rattle.std.proofs.Math.Nat.{max-le, max-eq_left}
 use Rattle.std.specs.Prelude.{Option, Some, None, is_some, nat_le, not, ◌&&◌, filter, if◌then◌else◌}
 use Rattle.vx_decode.specs.declared.instr.Instr.{Instr}
 use Rattle.vx_rows.specs.Table.{class_of}
+use Rattle.vx_rows.specs.declared.op.Op.{Op}
 use Rattle.vx_rows.specs.declared.row.Class.{Class}
 use Rattle.vx_rows.specs.declared.row.Class.TheVariants as class
 use Rattle.vx_base.specs.Numbers.{reduced}
@@ -12,9 +13,11 @@ use Rattle.vx_base.specs.declared.machine.Want.TheVariants.{Load, Store}
 use Rattle.vx_flat.specs.Access.{access_address}
 use Rattle.vx_flat.specs.Memory.{permits}
 use Rattle.vx_flat.specs.Process.{Process, after, stepped}
-use Rattle.vx_flat.specs.Scalar.{effect, effect_as}
+use Rattle.vx_flat.specs.Classes.{Does}
+use Rattle.vx_flat.specs.Scalar.{Work, effect, effect_of, next_pc, put, work}
+use Rattle.vx_flat.specs.Scalar.Work.{Acts}
 use Rattle.vx_flat.specs.State.{Flat, register}
-use Rattle.vx_flat.specs.Step.{Outcome, upcoming, performed, performed_as, affected, step}
+use Rattle.vx_flat.specs.Step.{Outcome, upcoming, performed, performed_as, affect, affected, step}
 use Rattle.vx_flat.specs.Step.Outcome.{Next, Exited, Faulted}
 use Rattle.vx_flat.specs.declared.effect.Effect.{Effect}
 use Rattle.vx_flat.specs.declared.effect.Effect.TheVariants as effect
@@ -55,13 +58,23 @@ jumping-stops lanes banks bank_time start r k history s i (effect.Value value pc
 jumping-stops lanes banks bank_time start r k history s i (effect.Next pc) q e h = absurd h
 jumping-stops lanes banks bank_time start r k history s i (effect.Misaligned target) q e h = StopsAt-serial lanes banks bank_time start r k history Faults q e
 
--- an instruction of a class does what its row does
-effect-as : (c : Class) (s : Flat) (i : Instr) → class_of i.op ≡ c → effect i s.x s.pc ≡ effect_as c i.op s.pc (register s i.rs1) (register s i.rs2) (reduced 64 i.imm)
-effect-as c s i is = ap (λ (d : Class). effect_as d i.op s.pc (register s i.rs1) (register s i.rs2) (reduced 64 i.imm)) is
+-- each operation does what its class says
+abbrev pub DoAsTheirClass : Type 0
+DoAsTheirClass = (op : Op) (pc a b n : ℕ) → Does (class_of op) pc (work op pc a b n)
 
--- so it doesn't end the process, where its row never does
-ends-as-row : (c : Class) (s : Flat) (i : Instr) → class_of i.op ≡ c → Ends (affected s i.rd (effect i s.x s.pc)) → Ends (affected s i.rd (effect_as c i.op s.pc (register s i.rs1) (register s i.rs2) (reduced 64 i.imm)))
-ends-as-row c s i is h = subst (λ (done : Effect). Ends (affected s i.rd done)) (effect-as c s i is) h
+-- what an instruction does
+abbrev work_of : Flat → Instr → Work
+work_of s i = work i.op s.pc (register s i.rs1) (register s i.rs2) (reduced 64 i.imm)
+
+does-as : DoAsTheirClass → (c : Class) (s : Flat) (i : Instr) → class_of i.op ≡ c → Does c s.pc (work_of s i)
+does-as law c s i is = subst (λ (d : Class). Does d s.pc (work_of s i)) is (law i.op s.pc (register s i.rs1) (register s i.rs2) (reduced 64 i.imm))
+
+-- where it puts a value, or passes, it doesn't end the process
+put-goes : (s : Flat) (i : Instr) (value : ℕ) → work_of s i ≡ Acts (put value s.pc) → Ends (affect s i) → ⊥
+put-goes s i value is h = subst (λ (w : Work). Ends (affected s i.rd (effect_of w s.pc))) is h
+
+pass-goes : (s : Flat) (i : Instr) → work_of s i ≡ Acts (effect.Next (next_pc s.pc)) → Ends (affect s i) → ⊥
+pass-goes s i is h = subst (λ (w : Work). Ends (affected s i.rd (effect_of w s.pc))) is h
 
 -- a load or a store, whose address fits and whose page grants it or not
 access-retires : (lanes banks bank_time start r k : ℕ) (history : History) (a b : ℕ) (writes : List ℕ) (element address : ℕ) (is_store fits granted : Bool) (x y z : Outcome) → IsQuiet (in_order lanes banks bank_time) start r history → k ≡ r + 4 + bank_time → (GoesOn x → ⊥) → (GoesOn y → ⊥) → GoesOn (if not fits then x else if not granted then y else z) → RetiresAt (in_order lanes banks bank_time) start history (one_access a b writes (access_of element address is_store (fits && granted))) k
@@ -95,19 +108,19 @@ class-retires lanes banks bank_time start r k history class.Fence s i q other h 
 class-retires lanes banks bank_time start r k history class.Ecall s i q other h e = absurd (true-false other)
 class-retires lanes banks bank_time start r k history c s i q other h e = absurd h
 
-class-stops : (lanes banks bank_time start r k : ℕ) (history : History) (c : Class) (s : Flat) (i : Instr) → class_of i.op ≡ c → IsQuiet (in_order lanes banks bank_time) start r history → is_service_class c ≡ false → Ends (performed_as c s i) → k ≡ r + 1 + class_fault_time c → StopsAt (in_order lanes banks bank_time) start history (footprint_as c s i) Over k
-class-stops lanes banks bank_time start r k history class.Arithmetic s i is q other h e = absurd (ends-as-row class.Arithmetic s i is h)
-class-stops lanes banks bank_time start r k history class.Multiply s i is q other h e = absurd (ends-as-row class.Multiply s i is h)
-class-stops lanes banks bank_time start r k history class.Divide s i is q other h e = absurd (ends-as-row class.Divide s i is h)
-class-stops lanes banks bank_time start r k history class.Fence s i is q other h e = absurd (ends-as-row class.Fence s i is h)
-class-stops lanes banks bank_time start r k history class.Jump s i is q other h e = jumping-stops lanes banks bank_time start r k history s i (effect i s.x s.pc) q (omega arith) h
-class-stops lanes banks bank_time start r k history class.Branch s i is q other h e = jumping-stops lanes banks bank_time start r k history s i (effect i s.x s.pc) q (omega arith) h
-class-stops lanes banks bank_time start r k history class.Load s i is q other h e =
+class-stops : DoAsTheirClass → (lanes banks bank_time start r k : ℕ) (history : History) (c : Class) (s : Flat) (i : Instr) → class_of i.op ≡ c → IsQuiet (in_order lanes banks bank_time) start r history → is_service_class c ≡ false → Ends (performed_as c s i) → k ≡ r + 1 + class_fault_time c → StopsAt (in_order lanes banks bank_time) start history (footprint_as c s i) Over k
+class-stops law lanes banks bank_time start r k history class.Arithmetic s i is q other h e = let d = does-as law class.Arithmetic s i is in absurd (put-goes s i d.0 d.1 h)
+class-stops law lanes banks bank_time start r k history class.Multiply s i is q other h e = let d = does-as law class.Multiply s i is in absurd (put-goes s i d.0 d.1 h)
+class-stops law lanes banks bank_time start r k history class.Divide s i is q other h e = let d = does-as law class.Divide s i is in absurd (put-goes s i d.0 d.1 h)
+class-stops law lanes banks bank_time start r k history class.Fence s i is q other h e = absurd (pass-goes s i (does-as law class.Fence s i is) h)
+class-stops law lanes banks bank_time start r k history class.Jump s i is q other h e = jumping-stops lanes banks bank_time start r k history s i (effect i s.x s.pc) q (omega arith) h
+class-stops law lanes banks bank_time start r k history class.Branch s i is q other h e = jumping-stops lanes banks bank_time start r k history s i (effect i s.x s.pc) q (omega arith) h
+class-stops law lanes banks bank_time start r k history class.Load s i is q other h e =
     access-stops lanes banks bank_time start r k history i.rs1 i.rs2 (i.rd ∷ []) 0 (access_address i s.x) false _ (permits s.memory (access_address i s.x) Load) _ _ _ q (omega arith) none h
-class-stops lanes banks bank_time start r k history class.Store s i is q other h e =
+class-stops law lanes banks bank_time start r k history class.Store s i is q other h e =
     access-stops lanes banks bank_time start r k history i.rs1 i.rs2 (i.rd ∷ []) 0 (access_address i s.x) true _ (permits s.memory (access_address i s.x) Store) _ _ _ q (omega arith) none h
-class-stops lanes banks bank_time start r k history class.Ecall s i is q other h e = absurd (true-false other)
-class-stops lanes banks bank_time start r k history c s i is q other h e = StopsAt-serial lanes banks bank_time start r k history Faults q (omega arith)
+class-stops law lanes banks bank_time start r k history class.Ecall s i is q other h e = absurd (true-false other)
+class-stops law lanes banks bank_time start r k history c s i is q other h e = StopsAt-serial lanes banks bank_time start r k history Faults q (omega arith)
 
 class-serves : (lanes banks bank_time start r k : ℕ) (history : History) (c : Class) (s : Flat) (i : Instr) → IsQuiet (in_order lanes banks bank_time) start r history → is_service_class c ≡ true → k ≡ r + 1 → StopsAt (in_order lanes banks bank_time) start history (footprint_as c s i) Service k
 class-serves lanes banks bank_time start r k history class.Ecall s i q asks e = StopsAt-serial lanes banks bank_time start r k history Serves q e
@@ -120,11 +133,11 @@ upcoming-retires lanes banks bank_time start r k history s Denied q other h e = 
 upcoming-retires lanes banks bank_time start r k history s (Illegal word) q other h e = absurd h
 upcoming-retires lanes banks bank_time start r k history s (Instruction i) q other h e = class-retires lanes banks bank_time start r k history (class_of i.op) s i q other h e
 
-upcoming-stops : (lanes banks bank_time start r k : ℕ) (history : History) (s : Flat) (u : Upcoming) → IsQuiet (in_order lanes banks bank_time) start r history → is_service u ≡ false → Ends (performed s u) → k ≡ r + 1 + fault_time u → StopsAt (in_order lanes banks bank_time) start history (footprint_of s u) Over k
+upcoming-stops : DoAsTheirClass → (lanes banks bank_time start r k : ℕ) (history : History) (s : Flat) (u : Upcoming) → IsQuiet (in_order lanes banks bank_time) start r history → is_service u ≡ false → Ends (performed s u) → k ≡ r + 1 + fault_time u → StopsAt (in_order lanes banks bank_time) start history (footprint_of s u) Over k
 unfolding performed
-upcoming-stops lanes banks bank_time start r k history s Denied q other h e = StopsAt-serial lanes banks bank_time start r k history Faults q (omega arith)
-upcoming-stops lanes banks bank_time start r k history s (Illegal word) q other h e = StopsAt-serial lanes banks bank_time start r k history Faults q (omega arith)
-upcoming-stops lanes banks bank_time start r k history s (Instruction i) q other h e = class-stops lanes banks bank_time start r k history (class_of i.op) s i refl q other h e
+upcoming-stops law lanes banks bank_time start r k history s Denied q other h e = StopsAt-serial lanes banks bank_time start r k history Faults q (omega arith)
+upcoming-stops law lanes banks bank_time start r k history s (Illegal word) q other h e = StopsAt-serial lanes banks bank_time start r k history Faults q (omega arith)
+upcoming-stops law lanes banks bank_time start r k history s (Instruction i) q other h e = class-stops law lanes banks bank_time start r k history (class_of i.op) s i refl q other h e
 
 upcoming-serves : (lanes banks bank_time start r k : ℕ) (history : History) (s : Flat) (u : Upcoming) → IsQuiet (in_order lanes banks bank_time) start r history → is_service u ≡ true → k ≡ r + 1 → StopsAt (in_order lanes banks bank_time) start history (footprint_of s u) Service k
 upcoming-serves lanes banks bank_time start r k history s Denied q asks e = absurd (true-false (sym asks))
@@ -268,14 +281,14 @@ some-of : (o : Option End) → is_some o ≡ true → o ≡ None → ⊥
 some-of None e n = true-false (sym e)
 some-of (Some end) e n = absurd (cc)
 
-pub EndsAnyhow-over : (bank_time start until r t : ℕ) (first now later : Process) (u : Upcoming) → IsRestAnyhow bank_time start until r first now → u ≡ upcoming now.state → is_service u ≡ false → now.over ≡ None → later ≡ stepped now → is_some later.over ≡ true → t ≡ fault_time u → EndsAnyhow bank_time start until first Over (r + 1 + t + 20) later
-EndsAnyhow-over bank_time start until r t first now later u rest is other running steps over time lanes banks =
+pub EndsAnyhow-over : DoAsTheirClass → (bank_time start until r t : ℕ) (first now later : Process) (u : Upcoming) → IsRestAnyhow bank_time start until r first now → u ≡ upcoming now.state → is_service u ≡ false → now.over ≡ None → later ≡ stepped now → is_some later.over ≡ true → t ≡ fault_time u → EndsAnyhow bank_time start until first Over (r + 1 + t + 20) later
+EndsAnyhow-over law bank_time start until r t first now later u rest is other running steps over time lanes banks =
     let h = rest lanes banks in
     let k = r + 1 + t in
     let at : is_service (upcoming now.state) ≡ false = ap is_service (sym is) ∙ other in
     let last : k ≡ r + 1 + fault_time (upcoming now.state) = ap (λ (n : ℕ). r + 1 + n) time ∙ ap (λ (v : Upcoming). r + 1 + fault_time v) is in
     let ended-now : (stepped now).over ≡ None → ⊥ = λ g. some-of later.over over (ap (λ (q : Process). q.over) steps ∙ g) in
-    let stops = upcoming-stops lanes banks bank_time start r k h.history now.state (upcoming now.state) h.quiet at (ends now running ended-now) last in
+    let stops = upcoming-stops law lanes banks bank_time start r k h.history now.state (upcoming now.state) h.quiet at (ends now running ended-now) last in
     stops-whole (in_order lanes banks bank_time) start until r k _ now Over h
     (subst (λ (f : Footprint). StopsAt (in_order lanes banks bank_time) start h.history f Over k) (sym (footprint-is now.state)) stops)
     ∙ ap (λ (q : Process). record { pause = Over; clock = k + 20; process = q }) (sym steps)

@@ -11,17 +11,39 @@ use Rattle.vx_times.specs.Footprint.{multiply_latency, divide_latency}
 -- how long an instruction of a class takes from its issue to its retire: one cycle behind its completion, which of a load
 -- and of a store is once its bank is done
 abbrev pub class_time : Class → (bank_time : ℕ) → ℕ
+class_time class.Arithmetic bank_time = 2
 class_time class.Multiply bank_time = multiply_latency + 1
 class_time class.Divide bank_time = divide_latency + 1
+class_time class.Jump bank_time = 2
+class_time class.Branch bank_time = 2
 class_time class.Load bank_time = bank_time + 3
 class_time class.Store bank_time = bank_time + 3
-class_time c bank_time = 2
+class_time class.Fence bank_time = 2
+class_time class.Ecall bank_time = 2
+class_time class.Ebreak bank_time = 2
+class_time class.Csr bank_time = 2
+class_time class.Set bank_time = 2
+class_time (class.VectorArithmetic family) bank_time = 2
+class_time (class.VectorLoad addressing width) bank_time = 2
+class_time (class.VectorStore addressing width) bank_time = 2
 
 -- how long a fault of a class takes from the issue: of a load and of a store until its page was looked up
 abbrev pub class_fault_time : Class → ℕ
+class_fault_time class.Arithmetic = 0
+class_fault_time class.Multiply = 0
+class_fault_time class.Divide = 0
+class_fault_time class.Jump = 0
+class_fault_time class.Branch = 0
 class_fault_time class.Load = 1
 class_fault_time class.Store = 1
-class_fault_time c = 0
+class_fault_time class.Fence = 0
+class_fault_time class.Ecall = 0
+class_fault_time class.Ebreak = 0
+class_fault_time class.Csr = 0
+class_fault_time class.Set = 0
+class_fault_time (class.VectorArithmetic family) = 0
+class_fault_time (class.VectorLoad addressing width) = 0
+class_fault_time (class.VectorStore addressing width) = 0
 
 abbrev pub retire_time : Upcoming → (bank_time : ℕ) → ℕ
 retire_time Denied bank_time = 2

@@ -45,8 +45,21 @@ pub record Runs (before after : SystemState) (stop : Stop) : Type 0 where
 
 -- an instruction of the class asks for a service
 abbrev pub is_service_class : Class → Bool
+is_service_class class.Arithmetic = false
+is_service_class class.Multiply = false
+is_service_class class.Divide = false
+is_service_class class.Jump = false
+is_service_class class.Branch = false
+is_service_class class.Load = false
+is_service_class class.Store = false
+is_service_class class.Fence = false
 is_service_class class.Ecall = true
-is_service_class c = false
+is_service_class class.Ebreak = false
+is_service_class class.Csr = false
+is_service_class class.Set = false
+is_service_class (class.VectorArithmetic family) = false
+is_service_class (class.VectorLoad addressing width) = false
+is_service_class (class.VectorStore addressing width) = false
 
 -- what comes next asks for a service
 abbrev pub is_service : Upcoming → Bool

@@ -6,6 +6,7 @@ ghost use Rattle.vx_times.specs.Episode.{episode};
 
 use crate::timing::{TRAP, fault_time, is_service, retire_time, words_held};
 use vx_alone::Alone;
+use vx_flat::operations_do_as_their_class;
 use vx_times::Pause;
 
 /// How an episode ended, and the cycle at which the system takes over.
@@ -28,6 +29,7 @@ pub fn run_episode(process: &mut Alone, start: u64, until: u64, bank_time: u64) 
     ensures later { start < result.clock }
     ensures service { result.pause ≡ Pause.Service → IsAsking process.new }
 {
+    operations_do_as_their_class();
     let mut retired = start;
     loop {
         let next = process.upcoming();

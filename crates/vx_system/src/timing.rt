@@ -32,7 +32,9 @@ pub fn retire_time(next: Upcoming, bank_time: u64) -> u64
             Class::Multiply => MULTIPLY + 1,
             Class::Divide => DIVIDE + 1,
             Class::Load | Class::Store => bank_time + 3,
-            _ => 2,
+            Class::Arithmetic | Class::Jump | Class::Branch | Class::Fence => 2,
+            Class::Ecall | Class::Ebreak | Class::Csr | Class::Set => 2,
+            Class::VectorArithmetic(_) | Class::VectorLoad(_, _) | Class::VectorStore(_, _) => 2,
         },
         Upcoming::Denied | Upcoming::Illegal(_) => 2,
     }
@@ -46,7 +48,9 @@ pub fn fault_time(next: Upcoming) -> u64
     match next {
         Upcoming::Instruction(i) => match i.op.class() {
             Class::Load | Class::Store => 1,
-            _ => 0,
+            Class::Arithmetic | Class::Multiply | Class::Divide | Class::Jump | Class::Branch => 0,
+            Class::Fence | Class::Ecall | Class::Ebreak | Class::Csr | Class::Set => 0,
+            Class::VectorArithmetic(_) | Class::VectorLoad(_, _) | Class::VectorStore(_, _) => 0,
         },
         Upcoming::Denied | Upcoming::Illegal(_) => 0,
     }
@@ -59,7 +63,11 @@ pub fn is_service(next: Upcoming) -> bool
     match next {
         Upcoming::Instruction(i) => match i.op.class() {
             Class::Ecall => true,
-            _ => false,
+            Class::Arithmetic | Class::Multiply | Class::Divide | Class::Jump | Class::Branch =>
+                false,
+            Class::Load | Class::Store | Class::Fence | Class::Ebreak => false,
+            Class::Csr | Class::Set | Class::VectorArithmetic(_) => false,
+            Class::VectorLoad(_, _) | Class::VectorStore(_, _) => false,
         },
         Upcoming::Denied | Upcoming::Illegal(_) => false,
     }

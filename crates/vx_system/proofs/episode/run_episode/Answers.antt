@@ -14,7 +14,7 @@ pub returns-then-is_some-clause-episode : goal.returns-then-is_some-clause-episo
 returns-then-is_some-clause-episode c =
     let other : is_service c.upcoming-next.result ≡ false = sym c.is_service.ensures ∙ c.if-is_service.false in
     let over : is_some c.perform.new.self.over ≡ true = cc in
-    EndsAnyhow-over c.args.bank_time c.args.start c.args.until c.loop-next.retired c.fault_time.result c.args.process.now c.loop-next.process c.perform.new.self c.upcoming-next.result c.loop-next.invariant.3 c.upcoming-next.ensures other c.loop-next.invariant.0 c.perform.ensures.stepped over c.fault_time.ensures
+    EndsAnyhow-over c.operations_do_as_their_class.ensures c.args.bank_time c.args.start c.args.until c.loop-next.retired c.fault_time.result c.args.process.now c.loop-next.process c.perform.new.self c.upcoming-next.result c.loop-next.invariant.3 c.upcoming-next.ensures other c.loop-next.invariant.0 c.perform.ensures.stepped over c.fault_time.ensures
 
 pub returns-then-is_some-clause-steps : goal.returns-then-is_some-clause-steps
 returns-then-is_some-clause-steps c =
