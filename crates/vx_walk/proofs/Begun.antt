@@ -88,7 +88,7 @@ Walks-end joins before now after residency root address want walking answer begu
     let last : Makes now after (map (written_entry before.cycle (walk_port want)) (option_to_list whole.write)) =
     subst (λ (w : Walk). Makes now after (map (written_entry before.cycle (walk_port want)) (option_to_list w.write))) same
     (subst (λ (port : Port). Makes now after (map (written_entry before.cycle port) (option_to_list (table_walk residency root walking.address walking.want).write))) begun.same_port
-      (subst (λ (cycle : ℕ). Makes now after (map (written_entry cycle walking.port) (option_to_list (table_walk residency root walking.address walking.want).write))) begun.makes.cycle ends.makes)) in
+    (subst (λ (cycle : ℕ). Makes now after (map (written_entry cycle walking.port) (option_to_list (table_walk residency root walking.address walking.want).write))) begun.makes.cycle ends.makes)) in
     let kept : now.contents ≡ before.contents = begun.makes.contents ∙ reads-stay before.cycle (walk_port want) begun.done before.contents in
     record {
       makes = subst (λ (entries : List TableEntry). Makes before after (map (read_entry before.cycle (walk_port want)) entries ++ map (written_entry before.cycle (walk_port want)) (option_to_list whole.write))) reads (joins before now after _ _ begun.makes last);

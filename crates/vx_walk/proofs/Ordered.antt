@@ -53,7 +53,7 @@ module _ (pages : List PageEntry) (size region : ℕ) where
   pub region-above : (index : ℕ) → IsPageList pages → 0 < size → IsFrom size region pages index → ((d : PageEntry) → region < (get_or pages index d).page / size) → index < length pages → has_region size region pages ≡ false
   region-above index listed some is above within =
       region-nowhere (λ k d lt same.
-        elim (cases_lt k index) [
-          | inl less ↦ omega (arith, is.before k d less, same)
-          | inr more ↦ omega (arith, regions_rise pages size index k d listed some more lt, above d, same)
-        ])
+      elim (cases_lt k index) [
+        | inl less ↦ omega (arith, is.before k d less, same)
+        | inr more ↦ omega (arith, regions_rise pages size index k d listed some more lt, above d, same)
+      ])

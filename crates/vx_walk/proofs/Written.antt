@@ -20,5 +20,5 @@ one-more joins before now after start v i word value at is begun made =
     let one : Makes now after (kernel_write before.cycle (start + i) (v i) ∷ []) =
     subst (λ (n : ℕ). Makes now after (kernel_write before.cycle (start + i) n ∷ [])) is
     (subst (λ (n : ℕ). Makes now after (kernel_write before.cycle n value ∷ [])) at
-      (subst (λ (cycle : ℕ). Makes now after (kernel_write cycle word value ∷ [])) begun.cycle made)) in
+    (subst (λ (cycle : ℕ). Makes now after (kernel_write cycle word value ∷ [])) begun.cycle made)) in
     subst (λ (accesses : List Access). Makes before after accesses) (sym (kernel_writes-next before.cycle start v i)) (joins before now after _ _ begun one)

@@ -5,7 +5,7 @@ ghost use Rattle.vx_base.specs.Pages.{IsPageList};
 ghost use Rattle.vx_tables.specs.Building.{Builds, IsFrom, kernel_write, kernel_writes, pointer_for, table_writes};
 ghost use Rattle.vx_tables.specs.Entries.{pointer};
 ghost use Rattle.vx_tables.specs.Residency.{Residency, pages_of, at_boot};
-ghost use Rattle.vx_tables.specs.Tables.{gib, mib2, has_region, regions_below, region_total, leaf_entry, table_count};
+ghost use Rattle.vx_tables.specs.Tables.{AreHeld, gib, mib2, has_region, regions_below, region_total, leaf_entry, table_count};
 
 use crate::entry::page_value;
 use vx_base::{PageEntry, PageList};
@@ -14,6 +14,7 @@ use vx_tables::tables_are_built_in_turn;
 
 /// How many pages a region of 1 GiB has, and how many such regions there are below the last page.
 const GIB: u64 = 1 << 18;
+
 const GIB_REGIONS: u64 = 256;
 
 /// How many pages a region of 2 MiB has.
@@ -130,7 +131,11 @@ fn write_pointers<C: Cells>(
     let mut next = next;
     for i in 0..FRAME_WORDS {
         let is_mapped = has_region(pages, size, base + u64::from(i));
-        write_word(cells, FRAME_WORDS * frame + i, pointer_or_none(is_mapped, next));
+        write_word(
+            cells,
+            FRAME_WORDS * frame + i,
+            pointer_or_none(is_mapped, next),
+        );
         next += count_of(is_mapped);
     }
     next
@@ -360,7 +365,9 @@ pub fn build<C: Cells>(cells: &mut C, first: u32, pages: &PageList) -> u32
     requires { first + table_count pages.now ≤ (C.state cells.old).frames }
     ensures count { result ≡ table_count pages.now }
     ensures builds { Builds (C.state cells.old) (C.state cells.new) first (at_boot None pages.now) }
+    ensures held { AreHeld (C.state cells.new) first (at_boot None pages.now) }
 {
+    tables_are_built_in_turn();
     build_tables(cells, first, pages, None)
 }
 
@@ -370,7 +377,9 @@ pub fn build_present<C: Cells>(cells: &mut C, first: u32, pages: &PageList, fram
     requires pages { frame + length pages.now ≤ (C.state cells.old).frames }
     ensures count { result ≡ table_count pages.now }
     ensures builds { Builds (C.state cells.old) (C.state cells.new) first (at_boot (Some frame) pages.now) }
+    ensures held { AreHeld (C.state cells.new) first (at_boot (Some frame) pages.now) }
 {
+    tables_are_built_in_turn();
     let _frames = cells.frames();
     build_tables(cells, first, pages, Some(frame))
 }

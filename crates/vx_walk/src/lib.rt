@@ -7,12 +7,12 @@
 
 mod building;
 mod entry;
-
+#[cfg(test)]
+mod tests;
 mod walker;
 mod whole;
 
 pub use building::{build, build_present};
 pub use vx_tables::Walked;
-
 pub use walker::Walker;
 pub use whole::walk;

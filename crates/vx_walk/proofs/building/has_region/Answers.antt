@@ -13,12 +13,12 @@ returns-then-index-len c =
       | inr differs ↦
           let apart : c.region_at.result ≢ c.args.region = λ e. false≢true (sym differs ∙ eq-eqb c.region_at.result c.args.region e) in
           differs ∙ sym (region-above c.args.pages.now c.args.size c.args.region index c.len.ensures.kept c.requires c.first_from-index.ensures
-            (λ d. let at = c.region_at.ensures d in let least = c.first_from-index.ensures.behind index d (omega arith) (omega arith) in
-              elim (cases_lt c.args.region c.region_at.result) [
-                | inl more ↦ omega (arith, at)
-                | inr less ↦ absurd (apart (omega (arith, at, least)))
-              ])
-            (omega arith))
+          (λ d. let at = c.region_at.ensures d in let least = c.first_from-index.ensures.behind index d (omega arith) (omega arith) in
+          elim (cases_lt c.args.region c.region_at.result) [
+            | inl more ↦ omega (arith, at)
+            | inr less ↦ absurd (apart (omega (arith, at, least)))
+          ])
+          (omega arith))
     ]
 
 pub returns-else-index-len : goal.returns-else-index-len

@@ -11,14 +11,14 @@ use Rattle.vx_walk.proofs.building.leaf_value.Goals as goal
 pub returns-then-index-len : goal.returns-then-index-len
 returns-then-index-len c =
     sym (ap (λ (o : Option PlacedPage). option_map_or (λ (p : PlacedPage). page_entry p.entry.perm.bits p.place) o 0)
-      (c.tables_are_built_in_turn.ensures.missing c.args.frame c.args.pages.now c.args.number c.first_from-index.result c.len.ensures.kept c.first_from-index.ensures
-        (λ d within. absurd (omega arith))))
+    (c.tables_are_built_in_turn.ensures.missing c.args.frame c.args.pages.now c.args.number c.first_from-index.result c.len.ensures.kept c.first_from-index.ensures
+    (λ d within. absurd (omega arith))))
 
 pub returns-then-entry-number : goal.returns-then-entry-number
 returns-then-entry-number c =
     sym (ap (λ (o : Option PlacedPage). option_map_or (λ (p : PlacedPage). page_entry p.entry.perm.bits p.place) o 0)
-      (c.tables_are_built_in_turn.ensures.missing c.args.frame c.args.pages.now c.args.number c.first_from-index.result c.len.ensures.kept c.first_from-index.ensures
-        (λ d within same. c.if-entry-number.true (ap (λ (e : PageEntry). e.page) (c.entry_at-entry.ensures d) ∙ same))))
+    (c.tables_are_built_in_turn.ensures.missing c.args.frame c.args.pages.now c.args.number c.first_from-index.result c.len.ensures.kept c.first_from-index.ensures
+    (λ d within same. c.if-entry-number.true (ap (λ (e : PageEntry). e.page) (c.entry_at-entry.ensures d) ∙ same))))
 
 pub returns : goal.returns
 returns c =

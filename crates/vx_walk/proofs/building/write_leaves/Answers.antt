@@ -15,6 +15,6 @@ pub loop-i-preserved : goal.loop-i-preserved
 loop-i-preserved g c = record {
   frames = c.write_word.ensures.frames ∙ c.loop-i.invariant.frames;
   makes = one-more c.accesses_are_made_in_turn.ensures.joined (g.C.Cells.state c.args.cells.now) (g.C.Cells.state c.loop-i.cells) (g.C.Cells.state c.write_word.new.cells) (512 * c.args.frame) (λ i. leaf_entry (at_boot c.args.first_page c.args.pages.now) (c.args.base + i)) c.loop-i.i _ c.leaf_value-value.result refl
-    (c.leaf_value-value.ensures ∙ ap (λ (n : ℕ). leaf_entry (at_boot c.args.first_page c.args.pages.now) (c.args.base + n)) c.from.ensures)
-    c.loop-i.invariant.makes c.write_word.ensures;
+      (c.leaf_value-value.ensures ∙ ap (λ (n : ℕ). leaf_entry (at_boot c.args.first_page c.args.pages.now) (c.args.base + n)) c.from.ensures)
+      c.loop-i.invariant.makes c.write_word.ensures;
 }

@@ -25,17 +25,17 @@ loop-i-preserved g c =
       few = omega (arith, c.loop-i.invariant.few, c.count_of-next.ensures.few);
       frames = c.write_word.ensures.frames ∙ c.loop-i.invariant.frames;
       next = λ from is.
-        let step = c.tables_are_built_in_turn.ensures.step c.args.size (c.args.base + c.loop-i.i) c.args.pages.now in
-        let e : c.args.base + (c.loop-i.i + 1) ≡ c.args.base + c.loop-i.i + 1 = omega arith in
-        let one : c.count_of-next.result ≡ (if has_region c.args.size (c.args.base + c.loop-i.i) c.args.pages.now then 1 else 0) =
-        c.count_of-next.ensures.value ∙ ap (λ (b : Bool). if b then 1 else 0) is_mapped in
-        rw e (omega (arith, c.loop-i.invariant.next from is, one, step));
+          let step = c.tables_are_built_in_turn.ensures.step c.args.size (c.args.base + c.loop-i.i) c.args.pages.now in
+          let e : c.args.base + (c.loop-i.i + 1) ≡ c.args.base + c.loop-i.i + 1 = omega arith in
+          let one : c.count_of-next.result ≡ (if has_region c.args.size (c.args.base + c.loop-i.i) c.args.pages.now then 1 else 0) =
+          c.count_of-next.ensures.value ∙ ap (λ (b : Bool). if b then 1 else 0) is_mapped in
+          rw e (omega (arith, c.loop-i.invariant.next from is, one, step));
       makes = λ from is.
-        one-more c.accesses_are_made_in_turn.ensures.joined (g.C.Cells.state c.args.cells.now) (g.C.Cells.state c.loop-i.cells) (g.C.Cells.state c.write_word.new.cells) (512 * c.args.frame) (λ i. pointer_for from c.args.size c.args.pages.now (c.args.base + i)) c.loop-i.i _ c.pointer_or_none.result refl
-        (c.pointer_or_none.ensures
+          one-more c.accesses_are_made_in_turn.ensures.joined (g.C.Cells.state c.args.cells.now) (g.C.Cells.state c.loop-i.cells) (g.C.Cells.state c.write_word.new.cells) (512 * c.args.frame) (λ i. pointer_for from c.args.size c.args.pages.now (c.args.base + i)) c.loop-i.i _ c.pointer_or_none.result refl
+          (c.pointer_or_none.ensures
           ∙ ap (λ (b : Bool). if b then pointer c.loop-i.next else 0) is_mapped
           ∙ ap (λ (k : ℕ). if has_region c.args.size (c.args.base + c.loop-i.i) c.args.pages.now then pointer k else 0) (c.loop-i.invariant.next from is))
-        (c.loop-i.invariant.makes from is) c.write_word.ensures;
+          (c.loop-i.invariant.makes from is) c.write_word.ensures;
     }
 
 pub returns-clause-next : goal.returns-clause-next

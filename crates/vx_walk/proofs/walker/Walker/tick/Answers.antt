@@ -48,7 +48,7 @@ returns-in-Reads-clause-walk g c residency root done held going =
     let P : Walking → Type 0 = λ w. IsWalk residency root w done → ReadsOn before after residency root w (record { address = here.address; want = here.want; port = here.port; stage = next }) done in
     subst P c.self.view_is
     (λ started. subst (λ (s : Stage). ReadsOn before after residency root here (record { address = here.address; want = here.want; port = here.port; stage = s }) done) (sym becomes)
-      (c.steps_follow_the_tables.ensures.reads before after residency root level frame here done held started c.in-Reads.is makes))
+    (c.steps_follow_the_tables.ensures.reads before after residency root level frame here done held started c.in-Reads.is makes))
     going
 
 pub returns-in-Ends-clause-walk : goal.returns-in-Ends-clause-walk
