@@ -68,11 +68,11 @@ Serves-first before after bank place q cells now served found is becomes makes a
     record {
       first = q;
       queue = filter-found (is_on_bank before.banks bank) before.queued place q found
-        ∙ ap (λ (x : Queued). x ∷ queue_of (record before { queued = remove before.queued place }) bank) (sym is)
-        ∙ ap (λ (view : BanksView). q ∷ queue_of view bank) (sym becomes);
+          ∙ ap (λ (x : Queued). x ∷ queue_of (record before { queued = remove before.queued place }) bank) (sym is)
+          ∙ ap (λ (view : BanksView). q ∷ queue_of view bank) (sym becomes);
       others = λ other differs.
-        ap (λ (view : BanksView). queue_of view other) becomes
-        ∙ filter-other (is_on_bank before.banks other) before.queued place q first.0
+          ap (λ (view : BanksView). queue_of view other) becomes
+          ∙ filter-other (is_on_bank before.banks other) before.queued place q first.0
           (ap (λ (x : Queued). is_on_bank before.banks other x) (sym is) ∙ ne_eqb (q.word % before.banks) other (λ same. differs (sym same ∙ on_bank)));
       count = sym (ap (λ (view : BanksView). length view.queued + 1) becomes ∙ length-remove before.queued place first.0);
       last = ap (λ (view : BanksView). view.served) becomes;

@@ -45,10 +45,10 @@ table_writes-more cycle residency first t =
     let f : 512 * first + 512 * t ≡ 512 * (first + t) = omega arith in
     let v : ℕ → ℕ = λ k. table_word residency first (512 * first + k) in
     rw e (kernel_writes-add cycle (512 * first) v (512 * t) 512
-      ∙ ap (λ (ws : List Access). kernel_writes cycle (512 * first) v (512 * t) ++ ws)
-        (ap (λ (start : ℕ). kernel_writes cycle start (λ i. v (512 * t + i)) 512) f
-          ∙ kernel_writes-same cycle (512 * (first + t)) (λ i. v (512 * t + i)) (λ i. table_word residency first (512 * (first + t) + i)) 512
-            (λ i lt. let g : 512 * first + (512 * t + i) ≡ 512 * (first + t) + i = omega arith in ap (table_word residency first) g)))
+    ∙ ap (λ (ws : List Access). kernel_writes cycle (512 * first) v (512 * t) ++ ws)
+    (ap (λ (start : ℕ). kernel_writes cycle start (λ i. v (512 * t + i)) 512) f
+    ∙ kernel_writes-same cycle (512 * (first + t)) (λ i. v (512 * t + i)) (λ i. table_word residency first (512 * (first + t) + i)) 512
+    (λ i lt. let g : 512 * first + (512 * t + i) ≡ 512 * (first + t) + i = omega arith in ap (table_word residency first) g)))
 
 module _ (joined : (before between after : CellsState) (first second : List Access) → Makes before between first → Makes between after second → Makes before after (first ++ second)) where
   -- a frame with the words of the tables behind those that are there
@@ -71,14 +71,14 @@ module _ (joined : (before between after : CellsState) (first second : List Acce
   second-built before now after first region frame residency is at begun made =
       frame-more before now after first frame residency (λ i. pointer_for (first + 1 + region_total gib (pages_of residency)) mib2 (pages_of residency) (512 * region + i))
       (λ i lt. let e : second_frame first (pages_of residency) region ≡ first + frame = omega (arith, at) in
-        sym (table_word-second residency first region i is lt) ∙ ap (λ (f : ℕ). table_word residency first (512 * f + i)) e)
+      sym (table_word-second residency first region i is lt) ∙ ap (λ (f : ℕ). table_word residency first (512 * f + i)) e)
       begun made
 
   pub leaf-built : (before now after : CellsState) (first region frame : ℕ) (residency : Residency) → has_region mib2 region (pages_of residency) ≡ true → frame ≡ 1 + region_total gib (pages_of residency) + regions_below mib2 region (pages_of residency) → Makes before now (table_writes before.cycle residency first frame) → Makes now after (kernel_writes now.cycle (512 * (first + frame)) (λ i. leaf_entry residency (512 * region + i)) 512) → Makes before after (table_writes before.cycle residency first (frame + 1))
   leaf-built before now after first region frame residency is at begun made =
       frame-more before now after first frame residency (λ i. leaf_entry residency (512 * region + i))
       (λ i lt. let e : leaf_frame first (pages_of residency) region ≡ first + frame = omega (arith, at) in
-        sym (table_word-leaf residency first region i is lt) ∙ ap (λ (f : ℕ). table_word residency first (512 * f + i)) e)
+      sym (table_word-leaf residency first region i is lt) ∙ ap (λ (f : ℕ). table_word residency first (512 * f + i)) e)
       begun made
 
 -- counts of regions
@@ -153,7 +153,7 @@ found-at_boot frame (e ∷ pages) number zero d before within is =
 found-at_boot frame (e ∷ pages) number (suc index) d before within is =
     rw (ne_eqb e.page number (before 0 (omega arith)))
     (found-at_boot (option_map suc frame) pages number index d (λ k lt. before (suc k) (omega arith)) (omega arith) is
-      ∙ ap (λ (place : Place). Some (record { entry = get_or pages index d; place = place })) (place_plus frame index))
+    ∙ ap (λ (place : Place). Some (record { entry = get_or pages index d; place = place })) (place_plus frame index))
 
 pub missing-at_boot : (frame : Option ℕ) (pages : List PageEntry) (number : ℕ) → ((k : ℕ) (d : PageEntry) → k < length pages → (get_or pages k d).page ≢ number) → placed number (at_boot frame pages) ≡ None
 missing-at_boot frame [] number none = refl
@@ -253,23 +253,23 @@ tables-built whole before after first residency memory listed room few made =
       stand = record {
         listed = listed;
         each = λ word low high.
-          let i : ℕ = word - 512 * first in
-          let e : 512 * first + i ≡ word = omega arith in
-          let lt : i < 512 * count = omega arith in
-          ap (λ (ws : List ℕ). get_or ws word 0) made.contents
-          ∙ ap (λ (w : ℕ). get_or (with_accesses before.contents (kernel_writes before.cycle (512 * first) v (512 * count))) w 0) (sym e)
-          ∙ words-inside whole before.contents before.cycle (512 * first) v (512 * count) i lt space small
-          ∙ ap (table_word residency first) e;
+            let i : ℕ = word - 512 * first in
+            let e : 512 * first + i ≡ word = omega arith in
+            let lt : i < 512 * count = omega arith in
+            ap (λ (ws : List ℕ). get_or ws word 0) made.contents
+            ∙ ap (λ (w : ℕ). get_or (with_accesses before.contents (kernel_writes before.cycle (512 * first) v (512 * count))) w 0) (sym e)
+            ∙ words-inside whole before.contents before.cycle (512 * first) v (512 * count) i lt space small
+            ∙ ap (table_word residency first) e;
       };
       memory = IsMemory-after before after (table_writes before.cycle residency first count) made memory;
       others = λ word out.
-        ap (λ (ws : List ℕ). get_or ws word 0) made.contents
-        ∙ words-outside whole before.contents before.cycle (512 * first) v (512 * count) word
+          ap (λ (ws : List ℕ). get_or ws word 0) made.contents
+          ∙ words-outside whole before.contents before.cycle (512 * first) v (512 * count) word
           (λ i lt same.
-            let low : 512 * first ≤ word = omega (arith, same) in
-            let high : word < 512 * (first + count) = omega (arith, same) in
-            let inside : (nat_le (512 * first) word && nat_lt word (512 * (first + count))) ≡ true = rw (le-leb (512 * first) word low, lt-ltb word (512 * (first + count)) high) refl in
-            false≢true (sym out ∙ inside))
+          let low : 512 * first ≤ word = omega (arith, same) in
+          let high : word < 512 * (first + count) = omega (arith, same) in
+          let inside : (nat_le (512 * first) word && nat_lt word (512 * (first + count))) ≡ true = rw (le-leb (512 * first) word low, lt-ltb word (512 * (first + count)) high) refl in
+          false≢true (sym out ∙ inside))
           small;
     }
 
@@ -288,10 +288,10 @@ found frame pages number index d from within is =
 pub missing : (frame : Option ℕ) (pages : List PageEntry) (number index : ℕ) → IsPageList pages → IsFrom 1 number pages index → ((d : PageEntry) → index < length pages → (get_or pages index d).page ≢ number) → placed number (at_boot frame pages) ≡ None
 missing frame pages number index listed from none =
     missing-at_boot frame pages number (λ k d lt same.
-      elim (cases_lt k index) [
-        | inl less ↦ absurd (omega (arith, from.before k d less, same))
-        | inr more ↦ elim (cases_lt index k) [
-          | inl later ↦ absurd (omega (arith, listed.rising index k d later lt, from.behind index d (omega arith) (omega arith), same))
-          | inr least ↦ let e : k ≡ index = omega arith in absurd (none d (omega arith) (ap (λ (n : ℕ). (get_or pages n d).page) (sym e) ∙ same))
-        ]
-      ])
+    elim (cases_lt k index) [
+      | inl less ↦ absurd (omega (arith, from.before k d less, same))
+      | inr more ↦ elim (cases_lt index k) [
+        | inl later ↦ absurd (omega (arith, listed.rising index k d later lt, from.behind index d (omega arith) (omega arith), same))
+        | inr least ↦ let e : k ≡ index = omega arith in absurd (none d (omega arith) (ap (λ (n : ℕ). (get_or pages n d).page) (sym e) ∙ same))
+      ]
+    ])

@@ -216,7 +216,7 @@ module _ (residency : Residency) (root address : ℕ) (want : Want) (listed : Is
       rw (known.canonical, giga, mega) (
         ap (leaf_answer want) value,
         ap (λ (v : ℕ). option_map (λ (written : ℕ). record { word = entry_word (leaf_frame root (pages_of residency) (region1 address)) address 0; value = written }) (leaf_written want v)) value
-        ∙ ap (λ (w : ℕ). option_map (λ (written : ℕ). record { word = w; value = written }) (leaf_written want leaf_value)) word,
+            ∙ ap (λ (w : ℕ). option_map (λ (written : ℕ). record { word = w; value = written }) (leaf_written want leaf_value)) word,
       )
 
   pub mapped-answer : (expected residency root address want).answer ≡ page_map residency address want

@@ -1,8 +1,11 @@
 -- The page map of a residency against the memory that it is of.
 use Rattle.std.proofs.Common.{◌≡◌, ℕ, ◌+◌, ◌/◌, ◌^◌, Bool, true, false, cond, eqb, inl, inr, List, [], ◌∷◌, Some, None, map, refl, sym, ap, subst, ◌∙◌, arith}
-use Rattle.std.specs.Prelude.{Option, option_map, if◌then◌else◌}
+use Rattle.std.specs.Prelude.{Option, option_map, ◌&&◌, if◌then◌else◌}
 use Rattle.std.specs.Option.{option_map_or}
 use Rattle.std.proofs.lemmas.Bool.{cases_Bool}
+use Rattle.vx_base.specs.Pages.{IsPageList}
+use Rattle.vx_tables.specs.Walks.{is_canonical}
+use Rattle.vx_tables.proofs.Descents.{mapped_low}
 use Rattle.vx_base.specs.Permissions.{grants}
 use Rattle.vx_base.specs.declared.machine.Want.{Want}
 use Rattle.vx_base.specs.declared.perm.Perm.{Perm}
@@ -77,6 +80,27 @@ leaf_granted residency memory address frame perm dirty want is leaf =
 pub denied_refused : (residency : Residency) (memory : Memory) (address : ℕ) (want : Want) → IsOf residency memory → page_map residency address want ≡ walked.Denied → is_granted memory address want ≡ false
 denied_refused residency memory address want is denied =
     subst (λ (w : Walked). Tells w (is_granted memory address want)) denied (tells residency memory address want is)
+
+-- a page that was found lies at a canonical address
+leaf_canonical : (residency : Residency) (address frame : ℕ) (perm : Perm) (dirty : Bool) (want : Want) → IsPageList (pages_of residency) → page_map residency address want ≡ walked.Leaf frame perm dirty → is_canonical address ≡ true
+unfolding page_map
+leaf_canonical residency address frame perm dirty want listed leaf = go (placed (page_of address) residency) refl leaf
+  where
+    go : (o : Option PlacedPage) → placed (page_of address) residency ≡ o → option_map_or (λ (p : PlacedPage). found_at p.entry.perm.bits want p.place) o walked.Denied ≡ walked.Leaf frame perm dirty → is_canonical address ≡ true
+    go None none found = absurd (cc found)
+    go (Some p) is found = (mapped_low residency 0 address want listed p is).canonical
+
+pub leaf_permitted : (residency : Residency) (memory : Memory) (address frame : ℕ) (perm : Perm) (dirty : Bool) (want : Want) → IsOf residency memory → IsPageList (pages_of residency) → page_map residency address want ≡ walked.Leaf frame perm dirty → (is_canonical address && is_granted memory address want) ≡ true
+leaf_permitted residency memory address frame perm dirty want is listed leaf =
+    ap (λ (b : Bool). b && is_granted memory address want) (leaf_canonical residency address frame perm dirty want listed leaf) ∙ leaf_granted residency memory address frame perm dirty want is leaf
+
+pub denied_forbidden : (residency : Residency) (memory : Memory) (address : ℕ) (want : Want) → IsOf residency memory → page_map residency address want ≡ walked.Denied → (is_canonical address && is_granted memory address want) ≡ false
+denied_forbidden residency memory address want is denied =
+    ap (λ (b : Bool). is_canonical address && b) (denied_refused residency memory address want is denied) ∙ never (is_canonical address)
+  where
+    never : (b : Bool) → (b && false) ≡ false
+    never true = refl
+    never false = refl
 
 -- the tables of an image
 numbers : (size : ℕ) (memory : Memory) → regions size (map entry_of_page memory) ≡ map (λ (page : MappedPage). page.number / size) memory

@@ -163,10 +163,10 @@ module _ (contents : List ℕ) (first number : ℕ) (residency : Residency) (p :
           | inr differs ↦
               let apart : 512 * region + i ≢ number = λ e. false≢true (sym differs ∙ eq-eqb (512 * region + i) number e) in
               let away : word ≢ there = λ e.
-                let b : regions_below mib2 (number / 512) pages ≡ j = omega (arith, e) in
-                let o : number % 512 ≡ i = omega (arith, e) in
-                let r : number / 512 ≡ region = below-same (number / 512) region (regions mib2 pages) mapped known.0 (b ∙ sym known.1) in
-                apart (omega (arith, r, o)) in
+              let b : regions_below mib2 (number / 512) pages ≡ j = omega (arith, e) in
+              let o : number % 512 ≡ i = omega (arith, e) in
+              let r : number / 512 ≡ region = below-same (number / 512) region (regions mib2 pages) mapped known.0 (b ∙ sym known.1) in
+              apart (omega (arith, r, o)) in
               elsewhere word away
               ∙ before
               ∙ entry_in-leaf residency first j i
@@ -191,12 +191,12 @@ module _ (contents : List ℕ) (first number : ℕ) (residency : Residency) (p :
   Stand-moved stand = record {
     listed = subst (λ (ps : List PageEntry). IsPageList ps) (sym (pages_of-with_place number place residency)) stand.listed;
     each = λ word low high.
-      let high' : word < 512 * (first + table_count pages) = subst (λ (ps : List PageEntry). word < 512 * (first + table_count ps)) (pages_of-with_place number place residency) high in
-      let t : ℕ = word / 512 - first in
-      let i : ℕ = word % 512 in
-      let e : 512 * (first + t) + i ≡ word = omega arith in
-      let lt : i < 512 = omega arith in
-      let few : t < table_count pages = omega arith in
-      let before : get_or contents (512 * (first + t) + i) 0 ≡ entry_in residency first t i = ap (λ (w : ℕ). get_or contents w 0) e ∙ stand.each word low high' in
-      ap (λ (w : ℕ). get_or written w 0) (sym e) ∙ moved_entry t i lt few before;
+        let high' : word < 512 * (first + table_count pages) = subst (λ (ps : List PageEntry). word < 512 * (first + table_count ps)) (pages_of-with_place number place residency) high in
+        let t : ℕ = word / 512 - first in
+        let i : ℕ = word % 512 in
+        let e : 512 * (first + t) + i ≡ word = omega arith in
+        let lt : i < 512 = omega arith in
+        let few : t < table_count pages = omega arith in
+        let before : get_or contents (512 * (first + t) + i) 0 ≡ entry_in residency first t i = ap (λ (w : ℕ). get_or contents w 0) e ∙ stand.each word low high' in
+        ap (λ (w : ℕ). get_or written w 0) (sym e) ∙ moved_entry t i lt few before;
   }

@@ -159,7 +159,7 @@ pub after-below : (r : ℕ) (ns : List ℕ) → isin r ns ≡ true → after (be
 after-below r ns is =
     ap (λ (o : Option ℕ). unwrap_or o 0)
     (find-one (λ n. eqb (below n ns) (below r ns)) r ns (eq-eqb (below r ns) (below r ns) refl) is
-      (λ n member passes. below-same n r ns member is (eqb-true (below n ns) (below r ns) passes)))
+    (λ n member passes. below-same n r ns member is (eqb-true (below n ns) (below r ns) passes)))
 
 pub below-after : (j : ℕ) (ns : List ℕ) → j < distinct_count ns → (isin (after j ns) ns ≡ true) × (below (after j ns) ns ≡ j)
 below-after j ns lt =

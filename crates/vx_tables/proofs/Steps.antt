@@ -108,6 +108,7 @@ module _ (residency : Residency) (root address : ℕ) where
     where
       bound : (root ≤ frame) × (frame < root + table_count pages)
       bound = table-within zero frame is
+
       go : (written : Option ℕ) → IfSome (option_map (λ (v : ℕ). record { word = entry_word frame address 0; value = v }) written) (λ (e : TableEntry). (512 * root ≤ e.word) × (e.word < 512 * (root + table_count pages)))
       go None = tt
       go (Some v) = (omega (arith, bound.0), omega (arith, bound.1))
@@ -170,10 +171,10 @@ reads before after residency root level frame walking done held going at makes =
       walk = record {
         stage = subst (λ (v : ℕ). IsStage residency root walking.address (stage_after walking.want walking.address level frame v)) (sym value) (stage-next residency root walking.address walking.want level frame there.0 there.1);
         whole =
-          begun
-          ∙ ap (reading_first done) (rest-read (table_word residency root) walking.want walking.address level frame)
-          ∙ ap (λ (es : List TableEntry). record rest { reads = es }) front
-          ∙ ap (λ (v : ℕ). reading_first (done ++ entry ∷ []) (rest_of (table_word residency root) walking.want walking.address (stage_after walking.want walking.address level frame v))) (sym value);
+            begun
+            ∙ ap (reading_first done) (rest-read (table_word residency root) walking.want walking.address level frame)
+            ∙ ap (λ (es : List TableEntry). record rest { reads = es }) front
+            ∙ ap (λ (v : ℕ). reading_first (done ++ entry ∷ []) (rest_of (table_word residency root) walking.want walking.address (stage_after walking.want walking.address level frame v))) (sym value);
       };
     }
 
@@ -212,10 +213,10 @@ module _ (whole : (old value : ℕ) → value < 2 ^ 64 → merged 255 old value 
   within-others contents root count None is word out = refl
   within-others contents root count (Some e) is word out =
       get_or-set_other contents e.word word e.value 0 (λ same.
-        let low : 512 * root ≤ word = omega (arith, is.0, same) in
-        let high : word < 512 * (root + count) = omega (arith, is.1, same) in
-        let inside : (nat_le (512 * root) word && nat_lt word (512 * (root + count))) ≡ true = rw (le-leb (512 * root) word low, lt-ltb word (512 * (root + count)) high) refl in
-        false≢true (sym out ∙ inside))
+      let low : 512 * root ≤ word = omega (arith, is.0, same) in
+      let high : word < 512 * (root + count) = omega (arith, is.1, same) in
+      let inside : (nat_le (512 * root) word && nat_lt word (512 * (root + count))) ≡ true = rw (le-leb (512 * root) word low, lt-ltb word (512 * (root + count)) high) refl in
+      false≢true (sym out ∙ inside))
 
   -- the end of a walk
   pub ends : (before after : CellsState) (residency : Residency) (root : ℕ) (answer : Walked) (write : Option TableEntry) (walking : Walking) (done : List TableEntry) → AreHeld before root residency → IsWalk residency root walking done → walking.stage ≡ stage.Ends answer write → Makes before after (map (written_entry before.cycle walking.port) (option_to_list write)) → EndsSo before after residency root walking done answer
@@ -234,8 +235,8 @@ module _ (whole : (old value : ℕ) → value < 2 ^ 64 → merged 255 old value 
         answer = sym (ap (λ (w : Walk). w.answer) done_with) ∙ table_walk-answer root walking.address walking.want residency held.stand.listed;
         makes = subst (λ (w : Option TableEntry). Makes before after (map (written_entry before.cycle walking.port) (option_to_list w))) (sym same_write) makes;
         held = AreHeld-after before after (map (written_entry before.cycle walking.port) (option_to_list write)) root residency (after_walk residency walking.address walking.want) makes held
-          (subst (λ (ws : List ℕ). Stand ws root (after_walk residency walking.address walking.want)) (sym contents) stands)
-          (pages_of-after_walk walking.address walking.want residency)
-          (AreBelow-after_walk before.frames walking.address walking.want residency held.pages);
+            (subst (λ (ws : List ℕ). Stand ws root (after_walk residency walking.address walking.want)) (sym contents) stands)
+            (pages_of-after_walk walking.address walking.want residency)
+            (AreBelow-after_walk before.frames walking.address walking.want residency held.pages);
         others = subst (λ (ws : List ℕ). SameBut root (table_count (pages_of residency)) before.contents ws) (sym contents) (within-others before.contents root (table_count (pages_of residency)) write there);
       }

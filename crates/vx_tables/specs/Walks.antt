@@ -51,8 +51,8 @@ walk_from memory want address zero frame =
 walk_from memory want address (suc level) frame =
     reading (entry_word frame address (suc level)) (memory (entry_word frame address (suc level)))
     (if is_pointer (memory (entry_word frame address (suc level)))
-      then walk_from memory want address level (frame_in (memory (entry_word frame address (suc level))))
-      else refused)
+    then walk_from memory want address level (frame_in (memory (entry_word frame address (suc level))))
+    else refused)
 
 -- the walk from a root
 unfoldable pub walk : (memory : ℕ → ℕ) → (root address : ℕ) → Want → Walk

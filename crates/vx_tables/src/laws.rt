@@ -1,4 +1,4 @@
-ghost use Rattle.std.specs.Prelude.{◌≡◌, ℕ, ◌+◌, ◌*◌, ◌^◌, ◌<◌, ◌≤◌, ◌⊎◌, Bool, true, false, List, [], ◌∷◌, map, length, slice_index, slice_index_or, slice_set, Option, Some, None, IfSome, option_map, ◌≢◌, if◌then◌else◌};
+ghost use Rattle.std.specs.Prelude.{◌≡◌, ◌&&◌, ℕ, ◌+◌, ◌*◌, ◌^◌, ◌<◌, ◌≤◌, ◌⊎◌, Bool, true, false, List, [], ◌∷◌, map, length, slice_index, slice_index_or, slice_set, Option, Some, None, IfSome, option_map, ◌≢◌, if◌then◌else◌};
 ghost use Rattle.std.specs.Option.{option_to_list};
 ghost use Rattle.vx_base.specs.Pages.{IsPageList};
 ghost use Rattle.vx_base.specs.declared.machine.Want.{Want};
@@ -13,7 +13,7 @@ ghost use Rattle.vx_tables.specs.Entries.{page_entry};
 ghost use Rattle.vx_tables.specs.Residency.{Residency, PlacedPage, Place, IsOf, pages_of, placed, with_place, page_map, after_walk, is_granted, AreBelow, at_boot, place_at_boot};
 ghost use Rattle.vx_tables.specs.Tables.{AreHeld, Stand, SameBut, gib, mib2, has_region, region_total, regions_below, leaf_entry, leaf_word, table_count};
 ghost use Rattle.vx_tables.specs.Walking.{Walking, first_stage, stage_after, IsStage, IsWalk, CanRead, CanWrite, ReadsOn, EndsSo};
-ghost use Rattle.vx_tables.specs.Walks.{entry_word, walk, table_walk, with_entry, written_entry};
+ghost use Rattle.vx_tables.specs.Walks.{is_canonical, entry_word, walk, table_walk, with_entry, written_entry};
 ghost use Rattle.vx_tables.specs.declared.stage.Stage.TheVariants as stage;
 ghost use Rattle.vx_tables.specs.declared.stage.TableEntry.{TableEntry};
 ghost use Rattle.vx_tables.specs.declared.walked.Walked.{Walked};
@@ -46,13 +46,13 @@ pub fn tables_elsewhere_stay()
         → (first + table_count (pages_of residency) ≤ changed) ⊎ (changed + count ≤ first) → Stand after first residency }
 {}
 
-/// The page map of a residency of a memory lets through what the memory grants, and its tables take as many frames as those
-/// of the memory's image.
+/// The page map of a residency of a memory lets through what the memory permits at canonical addresses, and its tables take
+/// as many frames as those of the memory's image.
 pub fn pages_are_granted()
-    ensures leaf { (residency : Residency) (memory : Memory) (address frame : ℕ) (perm : Perm) (dirty : Bool) (want : Want) → IsOf residency memory
-        → page_map residency address want ≡ walked.Leaf frame perm dirty → is_granted memory address want ≡ true }
+    ensures leaf { (residency : Residency) (memory : Memory) (address frame : ℕ) (perm : Perm) (dirty : Bool) (want : Want) → IsOf residency memory → IsPageList (pages_of residency)
+        → page_map residency address want ≡ walked.Leaf frame perm dirty → (is_canonical address && is_granted memory address want) ≡ true }
     ensures denied { (residency : Residency) (memory : Memory) (address : ℕ) (want : Want) → IsOf residency memory
-        → page_map residency address want ≡ walked.Denied → is_granted memory address want ≡ false }
+        → page_map residency address want ≡ walked.Denied → (is_canonical address && is_granted memory address want) ≡ false }
     ensures frames { (residency : Residency) (memory : Memory) → IsOf residency memory → table_count (pages_of residency) ≡ image.table_frames memory }
 {}
 

@@ -55,4 +55,4 @@ returns-clause-kept g c =
     let within = (position-Some (is_on_bank c.self.inside.banks c.args.bank) items place c.remove-q.result found).0 in
     subst (λ (qs : List Queued). AreWithin qs (g.C.Cells.state c.make.new.cells).frames) (sym c.remove-q.ensures.items)
     (subst (λ (frames : ℕ). AreWithin (remove items place) frames) (sym c.make.ensures.makes.frames)
-      (AreWithin-remove items place (g.C.Cells.state c.args.cells.now).frames within all))
+    (AreWithin-remove items place (g.C.Cells.state c.args.cells.now).frames within all))
