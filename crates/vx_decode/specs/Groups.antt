@@ -20,7 +20,7 @@ use Rattle.vx_rows.specs.declared.row.Shape.{Shape}
 use Rattle.vx_rows.specs.declared.row.Shape.TheVariants as shape
 use Rattle.vx_vstate.specs.Groups.{emul_eighths, registers_of_group}
 use Rattle.vx_vstate.specs.Vtype.{sew}
-use Rattle.vx_vstate.specs.declared.setting.Setting.{Setting}
+use Rattle.vx_vstate.specs.State.{SettingView}
 use Rattle.vx_decode.specs.declared.instr.Instr.{Instr}
 
 -- a group: its first register, the width of its elements in bits (EEW), whether it is a mask, and its registers in eighths
@@ -74,7 +74,7 @@ abbrev pub mask_at : (register : ℕ) → Group
 mask_at register = record { register = register; eew = 1; is_mask = true; emul_eighths = 8; fields = 1 }
 
 -- a register as an operand, where it is one
-abbrev pub group_of : Operand → Setting → (register : ℕ) → List Group
+abbrev pub group_of : Operand → SettingView → (register : ℕ) → List Group
 group_of Absent at register = []
 group_of Mask at register = mask_at register ∷ []
 group_of operand at register = record {
@@ -93,13 +93,13 @@ bits_of_eew E32 = 32
 bits_of_eew E64 = 64
 
 -- a register as a group of elements of a width, of so many fields
-abbrev pub group_at : Setting → (register width fields : ℕ) → Group
+abbrev pub group_at : SettingView → (register width fields : ℕ) → Group
 group_at at register width fields =
     record { register = register; eew = width; is_mask = false; emul_eighths = emul_eighths at.vtype width; fields = fields }
 
 -- what a vector load or store moves: elements of the encoded width; at indices of that width, elements of SEW; whole
 -- registers; or a mask
-abbrev pub moved : Addressing → Eew → Instr → Setting → Group
+abbrev pub moved : Addressing → Eew → Instr → SettingView → Group
 moved addressing.Unit width i at = group_at at i.rd (bits_of_eew width) (i.nf + 1)
 moved addressing.FaultOnlyFirst width i at = group_at at i.rd (bits_of_eew width) (i.nf + 1)
 moved addressing.Strided width i at = group_at at i.rd (bits_of_eew width) (i.nf + 1)
@@ -109,7 +109,7 @@ moved addressing.Whole width i at = record { register = i.rd; eew = bits_of_eew 
 moved addressing.MaskBits width i at = mask_at i.rd
 
 -- the indices of a vector load or store that has them
-abbrev pub indices : Addressing → Eew → Instr → Setting → List Group
+abbrev pub indices : Addressing → Eew → Instr → SettingView → List Group
 indices addressing.Unordered width i at = group_at at i.rs2 (bits_of_eew width) 1 ∷ []
 indices addressing.Ordered width i at = group_at at i.rs2 (bits_of_eew width) 1 ∷ []
 indices addressing.Unit width i at = []
@@ -119,33 +119,33 @@ indices addressing.Whole width i at = []
 indices addressing.MaskBits width i at = []
 
 -- the sources in the places of vs1 and vs2 of a row of vector arithmetic, where registers stand there
-abbrev pub first_source : First → Operand → Instr → Setting → List Group
+abbrev pub first_source : First → Operand → Instr → SettingView → List Group
 first_source first.Vector operand i at = group_of operand at i.rs1
 first_source first.Integer operand i at = []
 first_source first.Signed operand i at = []
 first_source first.Unsigned operand i at = []
 first_source first.Fixed operand i at = []
 
-abbrev pub second_source : Second → Operand → Instr → Setting → List Group
+abbrev pub second_source : Second → Operand → Instr → SettingView → List Group
 second_source second.Vector operand i at = group_of operand at i.rs2
 second_source second.Fixed operand i at = []
 
 -- the groups that an instruction of a class writes
-abbrev pub destinations_as : Class → Instr → Setting → List Group
+abbrev pub destinations_as : Class → Instr → SettingView → List Group
 destinations_as (class.VectorArithmetic family) i at = group_of (operands_of family).destination at i.rd
 destinations_as (class.VectorLoad addressing width) i at = moved addressing width i at ∷ []
 destinations_as other i at = []
 
 -- the groups that an instruction of a class and a shape reads, but for the mask in v0
-abbrev pub sources_as : Class → Shape → Instr → Setting → List Group
+abbrev pub sources_as : Class → Shape → Instr → SettingView → List Group
 sources_as (class.VectorArithmetic family) (shape.Vector first second vm) i at =
     second_source second (operands_of family).vs2 i at ++ first_source first (operands_of family).vs1 i at
 sources_as (class.VectorLoad addressing width) shape i at = indices addressing width i at
 sources_as (class.VectorStore addressing width) shape i at = moved addressing width i at ∷ indices addressing width i at
 sources_as other shape i at = []
 
-abbrev pub destinations : Instr → Setting → List Group
+abbrev pub destinations : Instr → SettingView → List Group
 destinations i at = destinations_as (class_of i.op) i at
 
-abbrev pub sources : Instr → Setting → List Group
+abbrev pub sources : Instr → SettingView → List Group
 sources i at = sources_as (class_of i.op) (shape_of i.op) i at

@@ -11,7 +11,7 @@ use Rattle.vx_rows.specs.declared.row.Addressing.TheVariants as addressing
 use Rattle.vx_rows.specs.declared.row.Class.{Class}
 use Rattle.vx_rows.specs.declared.row.Class.TheVariants as class
 use Rattle.vx_vstate.specs.Vtype.{vill, sew}
-use Rattle.vx_vstate.specs.declared.setting.Setting.{Setting}
+use Rattle.vx_vstate.specs.State.{SettingView}
 use Rattle.vx_vstate.specs.Groups.{registers_of_group}
 use Rattle.vx_decode.specs.Groups.{Group, mask_at, extent, meet, destinations, sources}
 use Rattle.vx_decode.specs.declared.instr.Instr.{Instr}
@@ -59,7 +59,7 @@ needs_none (class.VectorArithmetic family.Vmv4r) = true
 needs_none (class.VectorArithmetic family.Vmv8r) = true
 needs_none other = false
 
-abbrev pub lacks_configuration : Instr → Setting → Bool
+abbrev pub lacks_configuration : Instr → SettingView → Bool
 lacks_configuration i at = at.vtype == vill && not (needs_none (class_of i.op))
 
 -- ---- 2: an operand has no such width or no such number of registers, or its first register isn't one of those numbered by
@@ -72,7 +72,7 @@ is_bad_width g = not g.is_mask && not (nat_le 8 g.eew && nat_le g.eew 64)
 abbrev pub is_bad_group : Group → Bool
 is_bad_group g = is_bad_width g || not (nat_le 1 g.emul_eighths && nat_le g.emul_eighths 64) || not (g.register % registers_of_group g.emul_eighths == 0)
 
-abbrev pub has_bad_group : Instr → Setting → Bool
+abbrev pub has_bad_group : Instr → SettingView → Bool
 has_bad_group i at = some_group (destinations i at) is_bad_group || some_group (sources i at) is_bad_group
 
 -- ---- 3: the fields of a segment take more than eight registers, or pass the last
@@ -80,7 +80,7 @@ has_bad_group i at = some_group (destinations i at) is_bad_group || some_group (
 abbrev pub is_too_long : Group → Bool
 is_too_long g = not (g.fields == 1) && (nat_lt 64 (g.fields * g.emul_eighths) || nat_lt 32 (g.register + extent g))
 
-abbrev pub has_long_segment : Instr → Setting → Bool
+abbrev pub has_long_segment : Instr → SettingView → Bool
 has_long_segment i at = some_group (destinations i at) is_too_long || some_group (sources i at) is_too_long
 
 -- ---- 4: the destination of a masked row meets the mask
@@ -90,7 +90,7 @@ abbrev pub may_write_mask : Class → Bool
 may_write_mask (class.VectorArithmetic f) = compares f || reduces f
 may_write_mask other = false
 
-abbrev pub overwrites_mask : Instr → Setting → Bool
+abbrev pub overwrites_mask : Instr → SettingView → Bool
 overwrites_mask i at = not i.vm && not (may_write_mask (class_of i.op)) && some_group (destinations i at) (meet (mask_at 0))
 
 -- ---- 5: the destination meets a source of another width in registers that are needed still
@@ -114,7 +114,7 @@ reads_first (class.VectorArithmetic family.Vmv8r) = true
 reads_first (class.VectorArithmetic f) = reduces f
 reads_first other = false
 
-abbrev pub overlaps_badly : Instr → Setting → Bool
+abbrev pub overlaps_badly : Instr → SettingView → Bool
 overlaps_badly i at =
     not (reads_first (class_of i.op))
     && some_group (destinations i at) (λ d. some_group (sources i at) (λ s. meet d s && not (may_meet d s)))
@@ -135,7 +135,7 @@ is_kept_apart (class.VectorLoad addressing.Unordered width) nf = nat_lt 0 nf
 is_kept_apart (class.VectorLoad addressing.Ordered width) nf = nat_lt 0 nf
 is_kept_apart other nf = false
 
-abbrev pub meets_source : Instr → Setting → Bool
+abbrev pub meets_source : Instr → SettingView → Bool
 meets_source i at =
     is_kept_apart (class_of i.op) i.nf
     && some_group (destinations i at) (λ d. some_group (sources i at) (meet d) || (not i.vm && meet d (mask_at 0)))
@@ -153,7 +153,7 @@ begins_at_first (class.VectorArithmetic family.Vmsof) = true
 begins_at_first (class.VectorArithmetic f) = reduces f
 begins_at_first other = false
 
-abbrev pub begins_late : Instr → Setting → Bool
+abbrev pub begins_late : Instr → SettingView → Bool
 begins_late i at = not (at.vstart == 0) && begins_at_first (class_of i.op)
 
 -- ---- 8: the high half of a product at 64 bits, which no unit makes
@@ -165,12 +165,12 @@ is_high_half (class.VectorArithmetic family.Vmulhsu) = true
 is_high_half (class.VectorArithmetic family.Vsmul) = true
 is_high_half other = false
 
-abbrev pub is_too_wide : Instr → Setting → Bool
+abbrev pub is_too_wide : Instr → SettingView → Bool
 is_too_wide i at = sew at.vtype == 64 && is_high_half (class_of i.op)
 
 -- ---- any of them
 
-abbrev pub is_illegal : Instr → Setting → Bool
+abbrev pub is_illegal : Instr → SettingView → Bool
 is_illegal i at =
     lacks_configuration i at
     || has_bad_group i at
