@@ -3,7 +3,7 @@
 use Rattle.std.specs.Prelude.{◌≡◌, ◌⊎◌, ℕ, ◌+◌, ◌*◌, ◌-◌, ◌%◌, ◌^◌, ◌<◌, ℤ, pos, neg_ℤ, ◌<ℤ◌, ◌≤ℤ◌, int_rem, Bool, true, false, if◌then◌else◌}
 use Rattle.vx_base.specs.Numbers.{field, reduced}
 use Rattle.vx_rows.specs.Layouts.{layout_of}
-use Rattle.vx_rows.specs.Table.{shape_of}
+use Rattle.vx_rows.specs.Table.{bits_of, shape_of}
 use Rattle.vx_rows.specs.declared.row.Layout.{Layout}
 use Rattle.vx_rows.specs.declared.row.Nf.{Nf}
 use Rattle.vx_rows.specs.declared.row.Nf.TheVariants as nf
@@ -92,3 +92,7 @@ vm_bits vm.One b = 0
 abbrev pub operand_bits_of : Layout → Instr → ℕ
 operand_bits_of layout i =
     i.rd * 2 ^ 7 + i.rs1 * 2 ^ 15 + i.rs2 * 2 ^ 20 + number_bits layout.number i.imm + vm_bits layout.vm i.vm + i.nf * 2 ^ 29
+
+-- the word of an instruction
+abbrev pub word_of : Instr → ℕ
+word_of i = bits_of i.op + operand_bits_of (layout_of (shape_of i.op)) i

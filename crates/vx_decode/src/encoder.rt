@@ -1,7 +1,7 @@
 ghost use Rattle.std.specs.Prelude.{◌≡◌, ℕ, ◌+◌, ◌^◌, ◌<◌, Some, pos, neg_ℤ, ◌<ℤ◌, ◌≤ℤ◌};
 ghost use Rattle.vx_base.specs.Numbers.{reduced};
 ghost use Rattle.vx_decode.specs.Decoded.{decoded};
-ghost use Rattle.vx_decode.specs.Encoded.{IsValid, IsNumber, number_bits, vm_bits, bits_s, bits_b, bits_j};
+ghost use Rattle.vx_decode.specs.Encoded.{IsValid, IsNumber, word_of, number_bits, vm_bits, bits_s, bits_b, bits_j};
 ghost use Rattle.vx_rows.specs.Layouts.{layout_of};
 
 use crate::field::bits;
@@ -11,6 +11,7 @@ use vx_rows::{Number, Shape, Vm, fits_one_at_most, has_its_rows};
 /// The word of an instruction. Each operand lies in its range; those that its shape lacks are 0, or true for `vm`.
 pub fn encode(i: &Instr) -> u32
     requires { IsValid i.now }
+    ensures value { result ≡ word_of i.now }
     ensures decodes { decoded result ≡ Some i.now }
     ensures only { (word : ℕ) → word < 2 ^ 32 → decoded word ≡ Some i.now → word ≡ result }
 {

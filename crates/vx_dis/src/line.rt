@@ -83,16 +83,16 @@ fn push_operands(text: &mut String, instr: &Instr, kinds: &[OperandKind]) -> Res
     Ok(())
 }
 
-/// Appends the line of an instruction.
-fn push_instr(text: &mut String, instr: &Instr) -> Result<(), AllocError>
+/// Appends the line of an instruction with these operands.
+fn push_instr(text: &mut String, instr: &Instr, kinds: &[OperandKind]) -> Result<(), AllocError>
     requires { IsValid instr.now }
-    ensures { OnOk result (string_bytes text.new ≡ string_bytes text.old ++ instr_line instr.now) }
+    ensures { OnOk result (string_bytes text.new ≡ string_bytes text.old ++ instr_line instr.now kinds.now) }
 {
     text.push_str(name_of(instr.op, instr.nf))?;
-    push_operands(text, instr, operand_kinds(instr.op.shape()))
+    push_operands(text, instr, kinds)
 }
 
-/// Appends the line of a word that is no instruction.
+/// Appends the line of a word that is no instruction, or one whose row has no line yet.
 fn push_word(text: &mut String, word: u32) -> Result<(), AllocError>
     ensures { OnOk result (string_bytes text.new ≡ string_bytes text.old ++ word_line word) }
 {
@@ -105,14 +105,17 @@ fn push_word(text: &mut String, word: u32) -> Result<(), AllocError>
 pub(crate) fn push_line(text: &mut String, word: u32) -> Result<(), AllocError>
     ensures { OnOk result (string_bytes text.new ≡ string_bytes text.old ++ line_of word) }
 {
-    match decode(word) {
-        Some(instr) => push_instr(text, &instr),
+    let Some(instr) = decode(word) else {
+        return push_word(text, word);
+    };
+    match operand_kinds(instr.op.shape()) {
+        Some(kinds) => push_instr(text, &instr, kinds),
         None => push_word(text, word),
     }
 }
 
 /// The canonical line of a word: the mnemonic, and behind a space the operands, with a comma and a space between them. A
-/// word that is no instruction has the line `.word 0x` and its eight hexadecimal digits. `Err` where memory is wanting.
+/// word that is no instruction, or one whose row has no line yet, has the line `.word 0x` and its eight hexadecimal digits. `Err` where memory is wanting.
 pub fn line_of(alloc: Global, word: u32) -> Result<Text, AllocError>
     ensures { IfOk result (λ text. text ≡ line_of word) }
 {

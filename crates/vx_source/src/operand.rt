@@ -1,4 +1,4 @@
-ghost use Rattle.std.specs.Prelude.{◌≡◌};
+ghost use Rattle.std.specs.Prelude.{◌≡◌, option_map};
 ghost use Rattle.vx_source.specs.Operands.{operand_kinds};
 
 use vx_rows::Shape;
@@ -26,15 +26,16 @@ pub enum OperandKind {
     SourceNumber,
 }
 
-/// The operands of a row of this shape, in the order of its line.
-pub fn operand_kinds(shape: Shape) -> &'static [OperandKind]
-    ensures { result.now ≡ operand_kinds shape }
+/// The operands of a row of this shape, in the order of its line; `None` where its rows have no line yet, as those of
+/// vector shapes.
+pub fn operand_kinds(shape: Shape) -> Option<&'static [OperandKind]>
+    ensures { option_map (λ kinds. kinds.now) result ≡ operand_kinds shape }
 {
     use OperandKind::{
         Address, Control, Destination, FirstSource, SourceNumber, SecondSource, Signed, Target,
         Unsigned,
     };
-    match shape {
+    let kinds: &'static [OperandKind] = match shape {
         Shape::Registers => &[Destination, FirstSource, SecondSource],
         Shape::Immediate => &[Destination, FirstSource, Signed(12)],
         Shape::Shift => &[Destination, FirstSource, Unsigned(6)],
@@ -48,5 +49,14 @@ pub fn operand_kinds(shape: Shape) -> &'static [OperandKind]
         Shape::Csr => &[Destination, Control, FirstSource],
         Shape::CsrNumber => &[Destination, Control, SourceNumber],
         Shape::Fixed => &[],
-    }
+        Shape::SetType | Shape::SetNumber | Shape::SetRegister | Shape::Vector(_, _, _) => {
+            return None;
+        }
+        Shape::UnitMemory
+        | Shape::WholeMemory
+        | Shape::MaskMemory
+        | Shape::StridedMemory
+        | Shape::IndexedMemory => return None,
+    };
+    Some(kinds)
 }
