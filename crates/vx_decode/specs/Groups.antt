@@ -1,6 +1,6 @@
 -- The vector operands of an instruction as groups of registers: RISC-V "V" 1.0, sections 3.4.2, 5.2, 5.3, 7.3 and 7.8. A
 -- mask is one register, with elements of width 1.
-use Rattle.std.specs.Prelude.{ℕ, ◌+◌, ◌*◌, ◌/◌, Bool, true, false, ◌&&◌, nat_lt, List, [], ◌∷◌, ◌++◌, if◌then◌else◌}
+use Rattle.std.specs.Prelude.{◌≡◌, ℕ, ◌+◌, ◌*◌, ◌/◌, Bool, true, false, ◌&&◌, nat_lt, List, [], ◌∷◌, ◌++◌, option_to_list}
 use Rattle.vx_rows.specs.Families.{operands_of}
 use Rattle.vx_rows.specs.Table.{class_of, shape_of}
 use Rattle.vx_rows.specs.declared.family.Operand.{Operand}
@@ -21,16 +21,9 @@ use Rattle.vx_rows.specs.declared.row.Shape.TheVariants as shape
 use Rattle.vx_vstate.specs.Groups.{emul_eighths, registers_of_group}
 use Rattle.vx_vstate.specs.Vtype.{sew}
 use Rattle.vx_vstate.specs.State.{SettingView}
+use Rattle.vx_decode.specs.declared.group.Group.{Group}
+use Rattle.vx_decode.specs.declared.group.Groups.{Groups}
 use Rattle.vx_decode.specs.declared.instr.Instr.{Instr}
-
--- a group: its first register, the width of its elements in bits (EEW), whether it is a mask, and its registers in eighths
--- (EMUL). The fields of a segment are so many groups one behind another, else it is one
-pub record Group : Type 0 where
-  pub register : ℕ
-  pub eew : ℕ
-  pub is_mask : Bool
-  pub emul_eighths : ℕ
-  pub fields : ℕ
 
 -- the registers that a group takes, with all fields
 abbrev pub extent : Group → ℕ
@@ -149,3 +142,9 @@ destinations i at = destinations_as (class_of i.op) i at
 
 abbrev pub sources : Instr → SettingView → List Group
 sources i at = sources_as (class_of i.op) (shape_of i.op) i at
+
+-- the class of an instruction, its destination and its sources
+pub record AreGroupsOf (groups : Groups) (i : Instr) (at : SettingView) : Type 0 where
+  pub class : groups.class ≡ class_of i.op
+  pub destination : option_to_list groups.destination ≡ destinations i at
+  pub sources : option_to_list groups.second ++ option_to_list groups.first ≡ sources i at

@@ -13,7 +13,8 @@ use Rattle.vx_rows.specs.declared.row.Class.TheVariants as class
 use Rattle.vx_vstate.specs.Vtype.{vill, sew}
 use Rattle.vx_vstate.specs.State.{SettingView}
 use Rattle.vx_vstate.specs.Groups.{registers_of_group}
-use Rattle.vx_decode.specs.Groups.{Group, mask_at, extent, meet, destinations, sources}
+use Rattle.vx_decode.specs.Groups.{mask_at, extent, meet, destinations, sources}
+use Rattle.vx_decode.specs.declared.group.Group.{Group}
 use Rattle.vx_decode.specs.declared.instr.Instr.{Instr}
 
 -- the comparisons, and the carries and borrows that are masks
