@@ -236,9 +236,7 @@ fn meets_some(d: Group, s: Option<Group>) -> bool
 fn meets_any(d: Group, groups: &Groups, vm: bool) -> bool
     ensures { result ≡ (some_group (option_to_list groups.now.second ++ option_to_list groups.now.first) (meet d) || (not vm && meet d (mask_at 0))) }
 {
-    meets_some(d, groups.second)
-        || meets_some(d, groups.first)
-        || (!vm && d.meets(mask_at(0)))
+    meets_some(d, groups.second) || meets_some(d, groups.first) || (!vm && d.meets(mask_at(0)))
 }
 
 /// Instructions that need no configuration.
