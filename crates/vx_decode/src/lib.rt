@@ -7,14 +7,18 @@
 mod decoder;
 mod encoder;
 mod field;
+mod group;
 mod immediate;
 mod instr;
 mod memory;
 mod operation;
+mod rules;
 #[cfg(test)]
 mod tests;
 mod vector;
 
 pub use decoder::{decode, decoded_is_valid};
 pub use encoder::encode;
+pub use group::Group;
 pub use instr::Instr;
+pub use rules::legal;

@@ -1,5 +1,6 @@
-use crate::{Instr, decode, encode};
+use crate::{Instr, decode, encode, legal};
 use vx_rows::{ElemOp, MaskOp, MemoryOp, Op, PermOp, ScalarOp, SetOp, WidenOp};
+use vx_vstate::Setting;
 
 /// A word with the operation, `rd`, `rs1`, `rs2` and the immediate that it means. The words are LLVM's assembler's.
 struct Known(u32, ScalarOp, u8, u8, u8, i64);
@@ -428,5 +429,33 @@ fn words_with_no_row(rt: HostRuntime) {
     ];
     for word in words {
         assert_eq!(rt; decode(word), None);
+    }
+}
+
+#[test]
+fn legal_and_illegal_words(rt: HostRuntime) {
+    // e32, m1
+    let at = Setting {
+        vlen: 128,
+        vl: 4,
+        vtype: 0x10,
+        vstart: 0,
+        vxrm: 0,
+        scalar: 0,
+    };
+    let words = [
+        // vwadd.vv v2, v3, v4
+        (0xc632_2157, true),
+        // vnsrl.wi v2, v2, 0
+        (0xb220_3157, true),
+        // vmsne.vi v2, v2, 0
+        (0x6620_3157, true),
+        // vwadd.vv v2, v2, v4
+        (0xc622_2157, false),
+        // vadd.vv v0, v2, v4, v0.t
+        (0x0022_0057, false),
+    ];
+    for (word, answer) in words {
+        assert_eq!(rt; decode(word).is_some_and(|i| legal(&i, &at)), answer);
     }
 }

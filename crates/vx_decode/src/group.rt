@@ -1,0 +1,309 @@
+//! The groups of registers that an instruction's vector operands are.
+
+ghost use Rattle.std.specs.Prelude.{◌≡◌, ℕ, ◌≤◌, ◌++◌, option_to_list, IsTrue};
+ghost use Rattle.vx_decode.specs.Groups.{
+  AreGroupsOf,
+  bits_of_eew,
+  destinations_as,
+  eighths_of,
+  extent,
+  first_source,
+  group_at,
+  group_of,
+  indices,
+  mask_at,
+  meet,
+  moved,
+  second_source,
+  sources_as,
+  width_of,
+};
+ghost use Rattle.vx_rows.specs.declared.row.Class.TheVariants as class;
+ghost use Rattle.vx_vstate.specs.Groups.{emul_eighths, registers_of_group};
+ghost use Rattle.vx_vstate.specs.Views.{view_of};
+
+use crate::instr::Instr;
+use vx_rows::{Addressing, Class, Eew, Family, First, Operand, Second, Shape};
+use vx_vstate::Setting;
+
+/// A vector operand as a group of registers (RISC-V "V" 1.0, sections 3.4.2 and 5.2).
+#[derive(Clone, Copy, PartialEq, Eq, Debug)]
+pub struct Group {
+    /// The first register.
+    pub register: u32,
+    /// EEW, the width of an element in bits; 1 for a mask.
+    pub eew: u32,
+    /// The operand is a mask.
+    pub is_mask: bool,
+    /// EMUL, the registers of one field, in eighths.
+    pub emul_eighths: u32,
+    /// How many such groups stand one behind another: the fields of a segment, else 1.
+    pub fields: u32,
+}
+
+/// What an instruction writes and reads, but for the mask in `v0`.
+#[derive(Clone, Copy, PartialEq, Eq, Debug)]
+pub(crate) struct Groups {
+    /// Its operation's class.
+    pub(crate) class: Class,
+    /// What it writes.
+    pub(crate) destination: Option<Group>,
+    /// The source in the place of `vs2`, or what a store moves.
+    pub(crate) second: Option<Group>,
+    /// The source in the place of `vs1`, or the indices of a load or store.
+    pub(crate) first: Option<Group>,
+}
+
+impl Group {
+    /// The registers of one field.
+    #[inline(always)]
+    pub(crate) fn registers(self) -> u64
+        ensures is { result ≡ registers_of_group self.emul_eighths }
+        ensures positive { 1 ≤ result }
+    {
+        (u64::from(self.emul_eighths) / 8).max(1)
+    }
+
+    /// The registers of all fields.
+    #[inline(always)]
+    pub(crate) fn extent(self) -> u64
+        ensures is { result ≡ extent self }
+        ensures in_range { result ≤ 0x1fffffffffffffff }
+    {
+        u64::from(self.fields) * self.registers()
+    }
+
+    /// Whether two groups have a register in common.
+    #[inline(always)]
+    pub(crate) fn meets(self, other: Group) -> bool
+        ensures { result ≡ meet self other }
+    {
+        u64::from(self.register) < u64::from(other.register) + other.extent()
+            && u64::from(other.register) < u64::from(self.register) + self.extent()
+    }
+}
+
+/// The mask that begins at a register.
+#[inline(always)]
+pub(crate) fn mask_at(register: u8) -> Group
+    ensures { result ≡ mask_at register }
+{
+    Group {
+        register: u32::from(register),
+        eew: 1,
+        is_mask: true,
+        emul_eighths: 8,
+        fields: 1,
+    }
+}
+
+/// The groups of an instruction.
+#[inline(always)]
+pub(crate) fn groups_of(i: &Instr, at: &Setting) -> Groups
+    ensures { AreGroupsOf result i.now (view_of at.now) }
+{
+    groups_as(i.op.class(), i.op.shape(), i, at)
+}
+
+/// The groups of an instruction of a class and a shape.
+#[inline(always)]
+fn groups_as(class: Class, shape: Shape, i: &Instr, at: &Setting) -> Groups
+    ensures class { result.class ≡ class }
+    ensures destination { option_to_list result.destination ≡ destinations_as class i.now (view_of at.now) }
+    ensures sources { option_to_list result.second ++ option_to_list result.first ≡ sources_as class shape i.now (view_of at.now) }
+{
+    match class {
+        Class::VectorArithmetic(family) => arithmetic(family, shape, i, at),
+        Class::VectorLoad(addressing, width) => Groups {
+            class,
+            destination: Some(moved(addressing, width, i, at)),
+            second: None,
+            first: indices(addressing, width, i, at),
+        },
+        Class::VectorStore(addressing, width) => Groups {
+            class,
+            destination: None,
+            second: Some(moved(addressing, width, i, at)),
+            first: indices(addressing, width, i, at),
+        },
+        _ => Groups {
+            class,
+            destination: None,
+            second: None,
+            first: None,
+        },
+    }
+}
+
+/// The groups of a row of vector arithmetic.
+#[inline(always)]
+fn arithmetic(family: Family, shape: Shape, i: &Instr, at: &Setting) -> Groups
+    ensures class { result.class ≡ class.VectorArithmetic family }
+    ensures destination { option_to_list result.destination ≡ destinations_as (class.VectorArithmetic family) i.now (view_of at.now) }
+    ensures sources { option_to_list result.second ++ option_to_list result.first ≡ sources_as (class.VectorArithmetic family) shape i.now (view_of at.now) }
+{
+    let class = Class::VectorArithmetic(family);
+    let operands = family.operands();
+    let destination = operand_group(operands.destination, at, i.rd);
+    match shape {
+        Shape::Vector(first, second, _) => Groups {
+            class,
+            destination,
+            second: second_source(second, operands.vs2, i, at),
+            first: first_source(first, operands.vs1, i, at),
+        },
+        _ => Groups {
+            class,
+            destination,
+            second: None,
+            first: None,
+        },
+    }
+}
+
+/// The source in the place of `vs2`, where a register stands there.
+#[inline(always)]
+fn second_source(second: Second, operand: Operand, i: &Instr, at: &Setting) -> Option<Group>
+    ensures { option_to_list result ≡ second_source second operand i.now (view_of at.now) }
+{
+    match second {
+        Second::Vector => operand_group(operand, at, i.rs2),
+        Second::Fixed => None,
+    }
+}
+
+/// The source in the place of `vs1`, where a register stands there.
+#[inline(always)]
+fn first_source(first: First, operand: Operand, i: &Instr, at: &Setting) -> Option<Group>
+    ensures { option_to_list result ≡ first_source first operand i.now (view_of at.now) }
+{
+    match first {
+        First::Vector => operand_group(operand, at, i.rs1),
+        _ => None,
+    }
+}
+
+/// A register as an operand, where it is one.
+#[inline(always)]
+fn operand_group(operand: Operand, at: &Setting, register: u8) -> Option<Group>
+    ensures { option_to_list result ≡ group_of operand (view_of at.now) register }
+{
+    match operand {
+        Operand::Absent => None,
+        Operand::Mask => Some(mask_at(register)),
+        _ => Some(Group {
+            register: u32::from(register),
+            eew: width_of(operand, at.sew()),
+            is_mask: false,
+            emul_eighths: eighths_of(operand, at),
+            fields: 1,
+        }),
+    }
+}
+
+/// EEW of an operand.
+#[inline(always)]
+fn width_of(operand: Operand, sew: u32) -> u32
+    requires { sew ≤ 64 }
+    ensures is { result ≡ width_of operand sew }
+    ensures in_range { result ≤ 128 }
+{
+    match operand {
+        Operand::Absent => 0,
+        Operand::Double | Operand::WideElement => 2 * sew,
+        Operand::Half => sew / 2,
+        Operand::Quarter => sew / 4,
+        Operand::Eighth => sew / 8,
+        Operand::Sixteen => 16,
+        Operand::Mask => 1,
+        _ => sew,
+    }
+}
+
+/// EMUL of an operand, in eighths.
+#[inline(always)]
+fn eighths_of(operand: Operand, at: &Setting) -> u32
+    ensures { result ≡ eighths_of operand at.now.vtype }
+{
+    match operand {
+        Operand::Absent => 0,
+        Operand::Mask | Operand::Element | Operand::WideElement | Operand::Whole1 => 8,
+        Operand::Whole2 => 16,
+        Operand::Whole4 => 32,
+        Operand::Whole8 => 64,
+        _ => emul_eighths(at, width_of(operand, at.sew())),
+    }
+}
+
+/// EMUL of a group of elements of a width, in eighths.
+#[inline(always)]
+fn emul_eighths(at: &Setting, width: u32) -> u32
+    requires { width ≤ 128 }
+    ensures { result ≡ emul_eighths at.now.vtype width }
+{
+    width * at.lmul_eighths() / at.sew()
+}
+
+/// The width that a vector load or store encodes.
+#[inline(always)]
+fn bits_of_eew(width: Eew) -> u32
+    ensures is { result ≡ bits_of_eew width }
+    ensures in_range { result ≤ 64 }
+{
+    match width {
+        Eew::E8 => 8,
+        Eew::E16 => 16,
+        Eew::E32 => 32,
+        Eew::E64 => 64,
+    }
+}
+
+/// A register as a group of elements of a width, of so many fields.
+#[inline(always)]
+fn group_at(at: &Setting, register: u8, width: u32, fields: u32) -> Group
+    requires { width ≤ 128 }
+    ensures { result ≡ group_at (view_of at.now) register width fields }
+{
+    Group {
+        register: u32::from(register),
+        eew: width,
+        is_mask: false,
+        emul_eighths: emul_eighths(at, width),
+        fields,
+    }
+}
+
+/// What a vector load or store moves.
+#[inline(always)]
+fn moved(addressing: Addressing, width: Eew, i: &Instr, at: &Setting) -> Group
+    ensures { result ≡ moved addressing width i.now (view_of at.now) }
+{
+    let fields = u32::from(i.nf) + 1;
+    match addressing {
+        Addressing::Unit | Addressing::FaultOnlyFirst | Addressing::Strided => {
+            group_at(at, i.rd, bits_of_eew(width), fields)
+        }
+        Addressing::Unordered | Addressing::Ordered => group_at(at, i.rd, at.sew(), fields),
+        Addressing::Whole => Group {
+            register: u32::from(i.rd),
+            eew: bits_of_eew(width),
+            is_mask: false,
+            emul_eighths: 8 * fields,
+            fields: 1,
+        },
+        Addressing::MaskBits => mask_at(i.rd),
+    }
+}
+
+/// The indices of a vector load or store that has them.
+#[inline(always)]
+fn indices(addressing: Addressing, width: Eew, i: &Instr, at: &Setting) -> Option<Group>
+    ensures { option_to_list result ≡ indices addressing width i.now (view_of at.now) }
+{
+    match addressing {
+        Addressing::Unordered | Addressing::Ordered => {
+            Some(group_at(at, i.rs2, bits_of_eew(width), 1))
+        }
+        _ => None,
+    }
+}
