@@ -6,5 +6,7 @@
 #![tactic(auto)]
 
 mod avl;
+mod setting;
 
 pub use avl::Avl;
+pub use setting::Setting;

@@ -1,0 +1,5 @@
+pub mod Arithmetic
+pub mod Numbers
+pub mod Lists
+pub mod Reading
+pub mod Rules

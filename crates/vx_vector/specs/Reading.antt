@@ -1,0 +1,125 @@
+-- What an instruction of vector arithmetic reads: the operands of an element, which elements are active, and the operands as
+-- lists. RISC-V "V" 1.0, sections 5 and 10. All is read as it stood when the instruction began.
+use Rattle.std.specs.Prelude.{ℕ, ◌+◌, ◌*◌, ◌/◌, ◌%◌, ◌^◌, Bool, true, not, ◌==◌, ◌&&◌, ◌||◌, nat_lt, nat_le, List, [], map, if◌then◌else◌}
+use Rattle.std.specs.List.{range_with_len}
+use Rattle.vx_base.specs.Numbers.{reduced}
+use Rattle.vx_rows.specs.Families.{operands_of}
+use Rattle.vx_rows.specs.declared.family.Family.{Family}
+use Rattle.vx_rows.specs.declared.family.Operand.{Operand}
+use Rattle.vx_rows.specs.declared.family.Operand.TheVariants.{Absent, Single, Double, Half, Quarter, Eighth, Sixteen, Mask, Element, WideElement, Whole1, Whole2, Whole4, Whole8}
+use Rattle.vx_rows.specs.declared.row.First.{First}
+use Rattle.vx_rows.specs.declared.row.First.TheVariants as first
+use Rattle.vx_rows.specs.declared.row.Vm.{Vm}
+use Rattle.vx_rows.specs.declared.row.Vm.TheVariants as vm
+use Rattle.vx_vstate.specs.Registers.{element}
+use Rattle.vx_vstate.specs.Vtype.{sew, vlmax}
+use Rattle.vx_vstate.specs.declared.setting.Setting.{Setting}
+use Rattle.vx_vector.specs.Lists.{Lists}
+use Rattle.vx_vector.specs.Numbers.{Numbers, is_set}
+use Rattle.vx_vector.specs.declared.places.Places.{Places}
+
+-- an instruction, with the configuration, the integer register and the vector registers that it reads
+pub record Reading : Type 0 where
+  pub family : Family
+  -- what stands in the place of vs1
+  pub first : First
+  -- what its row says of bit 25
+  pub vm : Vm
+  pub at : Setting
+  pub places : Places
+  pub words : List ℕ
+
+-- the width of an operand's elements, where SEW is that of the configuration
+abbrev pub width_of : Operand → (sew : ℕ) → ℕ
+width_of Absent S = 0
+width_of Single S = S
+width_of Double S = 2 * S
+width_of Half S = S / 2
+width_of Quarter S = S / 4
+width_of Eighth S = S / 8
+width_of Sixteen S = 16
+width_of Mask S = 1
+width_of Element S = S
+width_of WideElement S = 2 * S
+width_of Whole1 S = S
+width_of Whole2 S = S
+width_of Whole4 S = S
+width_of Whole8 S = S
+
+-- how many whole registers an operand is, where it is so many
+abbrev pub whole_registers : Operand → ℕ
+whole_registers Whole1 = 1
+whole_registers Whole2 = 2
+whole_registers Whole4 = 4
+whole_registers Whole8 = 8
+whole_registers other = 0
+
+module _ (r : Reading) where
+  abbrev pub sew_of : ℕ
+  sew_of = sew r.at.vtype
+
+  -- the widths of the elements of vd, vs2 and vs1
+  abbrev pub destination_width : ℕ
+  destination_width = width_of (operands_of r.family).destination sew_of
+
+  abbrev pub vs2_width : ℕ
+  vs2_width = width_of (operands_of r.family).vs2 sew_of
+
+  abbrev pub vs1_width : ℕ
+  vs1_width = width_of (operands_of r.family).vs1 sew_of
+
+  -- an element of a register
+  abbrev pub element_of : (register width index : ℕ) → ℕ
+  element_of register width index = element r.at.vlen r.words register width index
+
+  -- bit i of the mask in v0 is set
+  abbrev pub mask_bit : ℕ → Bool
+  mask_bit i = is_set (element_of 0 1 i)
+
+  -- how many elements the instruction has: vl, or as many as whole registers hold
+  abbrev pub count_of : ℕ
+  count_of =
+      let whole = whole_registers (operands_of r.family).destination in
+      if whole == 0 then r.at.vl else whole * r.at.vlen / destination_width
+
+  -- its elements aren't masked: bit 25 is 1, or the row reads v0 as an operand
+  abbrev pub is_unmasked : Bool
+  is_unmasked = elim r.vm [ vm.Any ↦ r.places.vm | vm.Zero ↦ true | vm.One ↦ true ]
+
+  -- element i takes part
+  abbrev pub is_active : ℕ → Bool
+  is_active i = nat_le r.at.vstart i && nat_lt i count_of && (is_unmasked || mask_bit i)
+
+  -- what stands in the place of vs1, of 64 bits where it is no element of a register
+  abbrev pub number_of : ℕ
+  number_of = elim r.first [ first.Vector ↦ 0 | first.Integer ↦ r.at.scalar | first.Signed ↦ reduced 64 r.places.imm | first.Unsigned ↦ reduced 64 r.places.imm | first.Fixed ↦ 0 ]
+
+  -- operand b of element i
+  abbrev pub second_operand : ℕ → ℕ
+  second_operand i = elim r.first [ first.Vector ↦ element_of r.places.vs1 vs1_width i | first.Integer ↦ number_of % 2 ^ sew_of | first.Signed ↦ number_of % 2 ^ sew_of | first.Unsigned ↦ number_of % 2 ^ sew_of | first.Fixed ↦ 0 ]
+
+  -- the numbers at element i
+  abbrev pub numbers_at : ℕ → Numbers
+  numbers_at i = record {
+    sew = sew_of;
+    mode = r.at.vxrm;
+    a = element_of r.places.vs2 vs2_width i;
+    b = second_operand i;
+    d = element_of r.places.vd destination_width i;
+    m = not r.places.vm && mask_bit i;
+  }
+
+  -- so many elements of a register
+  abbrev pub elements_of : (register width count : ℕ) → List ℕ
+  elements_of register width count = map (element_of register width) (range_with_len 0 count)
+
+  -- the operands as lists
+  abbrev pub lists_of : Lists
+  lists_of = record {
+    sew = sew_of;
+    vl = r.at.vl;
+    vs2 = elements_of r.places.vs2 vs2_width (vlmax r.at.vlen r.at.vtype);
+    vs1 = elim r.first [ first.Vector ↦ elements_of r.places.vs1 vs1_width (vlmax r.at.vlen r.at.vtype) | first.Integer ↦ [] | first.Signed ↦ [] | first.Unsigned ↦ [] | first.Fixed ↦ [] ];
+    x = number_of;
+    active = map is_active (range_with_len 0 r.at.vl);
+  }
