@@ -6,11 +6,12 @@ use Rattle.vx_base.specs.Numbers.{reduced}
 use Rattle.vx_rows.specs.Families.{operands_of}
 use Rattle.vx_rows.specs.declared.family.Family.{Family}
 use Rattle.vx_rows.specs.declared.family.Operand.{Operand}
-use Rattle.vx_rows.specs.declared.family.Operand.TheVariants.{Absent, Single, Double, Half, Quarter, Eighth, Sixteen, Mask, Element, WideElement, Whole1, Whole2, Whole4, Whole8}
+use Rattle.vx_rows.specs.declared.family.Operand.TheVariants.{Whole1, Whole2, Whole4, Whole8}
 use Rattle.vx_rows.specs.declared.row.First.{First}
 use Rattle.vx_rows.specs.declared.row.First.TheVariants as first
 use Rattle.vx_rows.specs.declared.row.Vm.{Vm}
 use Rattle.vx_rows.specs.declared.row.Vm.TheVariants as vm
+use Rattle.vx_legal.specs.Groups.{width_of}
 use Rattle.vx_vstate.specs.Registers.{element}
 use Rattle.vx_vstate.specs.Vtype.{sew, vlmax}
 use Rattle.vx_vstate.specs.declared.setting.Setting.{Setting}
@@ -28,23 +29,6 @@ pub record Reading : Type 0 where
   pub at : Setting
   pub places : Places
   pub words : List ℕ
-
--- the width of an operand's elements, where SEW is that of the configuration
-abbrev pub width_of : Operand → (sew : ℕ) → ℕ
-width_of Absent S = 0
-width_of Single S = S
-width_of Double S = 2 * S
-width_of Half S = S / 2
-width_of Quarter S = S / 4
-width_of Eighth S = S / 8
-width_of Sixteen S = 16
-width_of Mask S = 1
-width_of Element S = S
-width_of WideElement S = 2 * S
-width_of Whole1 S = S
-width_of Whole2 S = S
-width_of Whole4 S = S
-width_of Whole8 S = S
 
 -- how many whole registers an operand is, where it is so many
 abbrev pub whole_registers : Operand → ℕ
