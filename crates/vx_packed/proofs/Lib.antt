@@ -1,0 +1,3 @@
+pub mod Joined
+pub mod OneByOne
+pub mod Masks
