@@ -1,5 +1,5 @@
 -- Elements joined to a word, and taken out of it again.
-use Rattle.std.proofs.Common.{◌≡◌, ℕ, zero, suc, ◌+◌, ◌-◌, ◌*◌, ◌/◌, ◌%◌, ◌^◌, ◌<◌, ◌≤◌, ⊎_elim, eq-or-lt_of_le, refl, sym, ap, ◌∙◌, subst, arith, pow_pos, mod-lt, mod-eq_of_lt, mul-le-mul_right}
+use Rattle.std.proofs.Common.{◌≡◌, ℕ, zero, suc, ◌+◌, ◌-◌, ◌*◌, ◌/◌, ◌%◌, ◌^◌, ◌<◌, ◌≤◌, ⊎_elim, eq-or-lt_of_le, refl, sym, ap, ◌∙◌, subst, arith, pow_pos, mod-lt, mul-le-mul_right}
 use Rattle.std.proofs.Math.Nat.{add-mul-div_right, add-mul-mod_self_right, mod-mod}
 use Rattle.std.proofs.lemmas.Nat.{pow-add, mod-pow-add, shr_high}
 use Rattle.vx_base.specs.Numbers.{field}

@@ -1,3 +1,4 @@
 pub mod Joined
+pub mod Lanes
 pub mod OneByOne
 pub mod Masks

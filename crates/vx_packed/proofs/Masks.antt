@@ -1,5 +1,5 @@
 -- Ones, and what is cut by them and shifted within a word.
-use Rattle.std.proofs.Common.{◌≡◌, ℕ, ◌+◌, ◌-◌, ◌*◌, ◌/◌, ◌%◌, ◌^◌, ◌<◌, ◌≤◌, bit_or, sym, ap, ◌∙◌, arith, pow_pos, mod-lt}
+use Rattle.std.proofs.Common.{◌≡◌, ℕ, ◌+◌, ◌-◌, ◌*◌, ◌/◌, ◌%◌, ◌^◌, ◌<◌, ◌≤◌, bit_or, sym, ap, ◌∙◌, arith, pow_pos}
 use Rattle.std.proofs.Math.Arith.{mul_pred}
 use Rattle.std.proofs.lemmas.Nat.{pow-add, shr_high, shl_whole, or_comm, or_shifted}
 

@@ -1,8 +1,8 @@
 -- A word made of its lanes one after another.
-use Rattle.std.proofs.Common.{◌≡◌, ℕ, zero, suc, ◌+◌, ◌*◌, ◌%◌, ◌^◌, ◌<◌, ◌≤◌, Bool, true, false, sym, ap, ◌∙◌, subst, arith, add-one, pow_pos, mod-lt, lit<}
+use Rattle.std.proofs.Common.{◌≡◌, ℕ, ◌+◌, ◌*◌, ◌%◌, ◌^◌, ◌<◌, sym, ap, ◌∙◌, subst, arith, add-one, pow_pos, mod-lt}
 use Rattle.vx_bits.specs.declared.saturation.Sat.{Sat}
 use Rattle.vx_packed.specs.Joined.{joined}
-use Rattle.vx_packed.specs.Made.{IsPacking, IsWithin, Answers, lane_of, made, truth}
+use Rattle.vx_packed.specs.Made.{IsWithin, Answers, lane_of, made, truth}
 use Rattle.vx_packed.specs.declared.elements.Lane.{Lane}
 use Rattle.vx_packed.specs.declared.elements.Made.{Made}
 use Rattle.vx_packed.specs.declared.elements.Packing.{Packing}

@@ -1,5 +1,5 @@
 -- A word whose elements are made of the elements at the same places of other words.
-use Rattle.std.specs.Prelude.{◌≡◌, ℕ, ◌*◌, ◌%◌, ◌^◌, ◌<◌, ◌≤◌, Bool, ◌==◌, if◌then◌else◌}
+use Rattle.std.specs.Prelude.{◌≡◌, ℕ, ◌*◌, ◌/◌, ◌%◌, ◌^◌, ◌<◌, ◌≤◌, Bool, ◌==◌, if◌then◌else◌}
 use Rattle.vx_bits.specs.declared.saturation.Sat.{Sat}
 use Rattle.vx_packed.specs.Joined.{lane, joined}
 use Rattle.vx_packed.specs.declared.elements.Lane.{Lane}
@@ -15,6 +15,10 @@ pub record IsPacking (at : Packing) : Type 0 where
   pub width_fits : at.count * at.width ≤ 64
   pub a_fits : at.count * at.a ≤ 64
   pub b_fits : at.count * at.b ≤ 64
+
+-- as many elements of one width as fill a word
+abbrev pub even_packing : (width : ℕ) → Packing
+even_packing width = record { count = 64 / width; width = width; a = width; b = width }
 
 -- the numbers of a lane are of its widths
 pub record IsWithin (at : Packing) (l : Lane) : Type 0 where

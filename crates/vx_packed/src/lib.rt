@@ -6,8 +6,11 @@
 #![tactic(auto)]
 
 mod elements;
+mod laws;
 mod making;
+mod merging;
 
 pub use elements::{Lane, Made, Packing, Sources};
-pub use making::make;
-
+pub use laws::joined_by_elements;
+pub use making::{even, make, make_even};
+pub use merging::{active_lanes, any_lane, beside, merge, merge_bits, splat};

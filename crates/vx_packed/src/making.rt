@@ -1,16 +1,16 @@
-ghost use Rattle.std.specs.Prelude.{◌≡◌, ℕ, ◌+◌, ◌-◌, ◌*◌, ◌<◌, ◌≤◌, ◌^◌, ◌%◌};
+ghost use Rattle.std.specs.Prelude.{IsTrue, ◌≡◌, ℕ, ◌+◌, ◌-◌, ◌*◌, ◌<◌, ◌≤◌, ◌^◌, ◌%◌};
+ghost use Rattle.vx_bits.specs.Width.{is_width};
 ghost use Rattle.vx_bits.specs.declared.saturation.Sat.{Sat};
 ghost use Rattle.vx_packed.specs.Joined.{lane};
-ghost use Rattle.vx_packed.specs.Made.{IsPacking, IsWithin, Answers, lane_of, made, truth};
+ghost use Rattle.vx_packed.specs.Made.{IsPacking, IsWithin, Answers, even_packing, lane_of, made, truth};
 ghost use Rattle.vx_packed.specs.declared.elements.Lane.{Lane};
 
-use vx_bits::Sat;
-
 use crate::elements::{Lane, Made, Packing, Sources};
+use vx_bits::Sat;
 
 /// Ones at the low `width` bits.
 #[inline(always)]
-fn ones(width: u32) -> u64
+pub(crate) fn ones(width: u32) -> u64
     requires positive { 0 < width }
     requires fits { width ≤ 64 }
     ensures { result ≡ 2 ^ width - 1 }
@@ -78,11 +78,43 @@ fn with_answer(width: u32, made: Made, k: u32, answer: Sat) -> Made
 pub fn make<F: Fn(Lane) -> Sat>(at: Packing, from: Sources, f: F) -> Made
     requires packing { IsPacking at }
     requires callable { (l : Lane) → IsWithin at l → F.pre f l }
-    ensures { (g : Lane → Sat) → Answers (F.post f) at g → result ≡ made at from g }
+    ensures value { (g : Lane → Sat) → Answers (F.post f) at g → result ≡ made at from g }
+    ensures below { result.value < 2 ^ (at.count * at.width) }
+    ensures sats_below { result.sats < 2 ^ at.count }
 {
     let mut so_far = Made { value: 0, sats: 0 };
     for k in 0..at.count {
         so_far = with_answer(at.width, so_far, k, f(lane_at(at, from, k)));
     }
     so_far
+}
+
+/// As many elements of one width as fill a word.
+#[inline(always)]
+pub fn even(width: u32) -> Packing
+    requires { IsTrue (is_width width) }
+    ensures value { result ≡ even_packing width }
+    ensures packing { IsPacking result }
+{
+    Packing {
+        count: 64 / width,
+        width,
+        a: width,
+        b: width,
+    }
+}
+
+/// `make`, where all elements have one width and fill the word.
+#[inline(always)]
+pub fn make_even<F: Fn(Lane) -> Sat>(width: u32, from: Sources, f: F) -> Made
+    requires width { IsTrue (is_width width) }
+    requires callable { (l : Lane) → IsWithin (even_packing width) l → F.pre f l }
+    ensures { (g : Lane → Sat) → Answers (F.post f) (even_packing width) g → result ≡ made (even_packing width) from g }
+{
+    match width {
+        8 => make(even(8), from, f),
+        16 => make(even(16), from, f),
+        32 => make(even(32), from, f),
+        _ => make(even(64), from, f),
+    }
 }

@@ -1,5 +1,5 @@
 -- A field is what a mask leaves of the word that was shifted.
-use Rattle.std.proofs.Common.{◌*◌, ◌/◌, ◌%◌, ◌^◌, ◌<◌, bit_and, sym, ap, ◌∙◌, subst, pow_pos, mod-lt}
+use Rattle.std.proofs.Common.{◌*◌, ◌/◌, ◌^◌, ◌<◌, bit_and, sym, ap, ◌∙◌, subst, pow_pos, mod-lt}
 use Rattle.std.proofs.lemmas.Nat.{and_mask}
 use Rattle.vx_packed.proofs.making.element.Goals as goal
 
