@@ -1,8 +1,9 @@
 -- The vector state: RISC-V "V" 1.0, section 3. At the start all is 0 but vill, which is this project's own choice.
-use Rattle.std.specs.Prelude.{ℕ, List, Bool, false, ◌||◌}
+use Rattle.std.specs.Prelude.{◌≡◌, ℕ, ◌<◌, ◌≤◌, List, length, Bool, false, ◌||◌, IsTrue}
+use Rattle.vx_base.specs.Options.{is_register_length}
 use Rattle.vx_vstate.specs.Configuration.{Configuration, configured}
-use Rattle.vx_vstate.specs.Registers.{no_words}
-use Rattle.vx_vstate.specs.Vtype.{vill}
+use Rattle.vx_vstate.specs.Registers.{no_words, words_of_all, with_word}
+use Rattle.vx_vstate.specs.Vtype.{vill, is_vtype, most_elements}
 use Rattle.vx_vstate.specs.declared.avl.Avl.{Avl}
 
 pub record VectorState : Type 0 where
@@ -14,6 +15,15 @@ pub record VectorState : Type 0 where
   pub vstart : ℕ
   pub vxsat : Bool
   pub vxrm : ℕ
+
+-- what is true of every vector state
+pub record IsVectorState (s : VectorState) : Type 0 where
+  pub vlen_in_range : IsTrue (is_register_length s.vlen)
+  pub words_in_all : length s.words ≡ words_of_all s.vlen
+  pub vtype_in_range : IsTrue (is_vtype s.vtype)
+  pub vl_in_range : s.vl ≤ most_elements s.vlen s.vtype
+  pub vstart_in_range : s.vstart < s.vlen
+  pub vxrm_in_range : s.vxrm < 4
 
 abbrev pub first_state : (vlen : ℕ) → VectorState
 first_state vlen = record { vlen = vlen; words = no_words vlen; vl = 0; vtype = vill; vstart = 0; vxsat = false; vxrm = 0 }
@@ -31,3 +41,25 @@ with_setting s avl wanted = set s (configured s.vlen (configuration_of s) avl wa
 -- vstart set, and vxsat joined with what an instruction saturated
 abbrev pub finished : VectorState → (vstart : ℕ) → Bool → VectorState
 finished s vstart sat = record s { vstart = vstart; vxsat = s.vxsat || sat }
+
+-- one instruction's view: the configuration, where to start, the rounding, and the scalar operand
+pub record SettingView : Type 0 where
+  pub vlen : ℕ
+  pub vl : ℕ
+  pub vtype : ℕ
+  pub vstart : ℕ
+  pub vxrm : ℕ
+  pub scalar : ℕ
+
+abbrev pub setting_of : VectorState → (scalar : ℕ) → SettingView
+setting_of s scalar = record { vlen = s.vlen; vl = s.vl; vtype = s.vtype; vstart = s.vstart; vxrm = s.vxrm; scalar = scalar }
+
+-- a view after a configuration
+abbrev pub reconfigured : SettingView → Avl → (wanted : ℕ) → SettingView
+reconfigured s avl wanted =
+    let c = configured s.vlen (record { vl = s.vl; vtype = s.vtype }) avl wanted in
+    record s { vl = c.vl; vtype = c.vtype; vstart = 0 }
+
+-- a word of a register set
+abbrev pub with_register_word : VectorState → (register w value : ℕ) → VectorState
+with_register_word s register w value = record s { words = with_word s.vlen s.words register w value }

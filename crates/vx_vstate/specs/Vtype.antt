@@ -1,6 +1,6 @@
 -- vtype, and what it says of elements and groups: RISC-V "V" 1.0, section 3.4. Which numbers are accepted is that
 -- section's, for elements of 64 bits at the most (section 18.2, Zve64x).
-use Rattle.std.specs.Prelude.{ℕ, ◌+◌, ◌-◌, ◌*◌, ◌/◌, ◌^◌, Bool, not, ◌==◌, ◌&&◌, nat_lt, nat_le, if◌then◌else◌}
+use Rattle.std.specs.Prelude.{ℕ, ◌-◌, ◌*◌, ◌/◌, ◌^◌, Bool, not, ◌==◌, ◌&&◌, ◌||◌, nat_lt, nat_le, if◌then◌else◌}
 use Rattle.vx_base.specs.Numbers.{field}
 
 -- the vtype of a configuration that isn't supported: vill, bit 63, alone
@@ -35,3 +35,11 @@ is_accepted vtype =
 -- the elements of a group come to as many under both: they have one ratio of SEW to LMUL
 abbrev pub is_same_ratio : ℕ → ℕ → Bool
 is_same_ratio a b = sew a * lmul_eighths b == sew b * lmul_eighths a
+
+-- what vtype may hold: vill alone, or a number that is accepted
+abbrev pub is_vtype : ℕ → Bool
+is_vtype vtype = vtype == vill || is_accepted vtype
+
+-- the most that vl may be: VLMAX, and 0 while vill is set
+abbrev pub most_elements : (vlen vtype : ℕ) → ℕ
+most_elements vlen vtype = if vtype == vill then 0 else vlmax vlen vtype

@@ -1,0 +1,11 @@
+-- Groups of registers: RISC-V "V" 1.0, sections 3.4.2 and 5.2.
+use Rattle.std.specs.Prelude.{ℕ, ◌*◌, ◌/◌, max}
+use Rattle.vx_vstate.specs.Vtype.{sew, lmul_eighths}
+
+-- EMUL, the registers of a group whose elements have a width of their own, in eighths: EEW / SEW * LMUL
+abbrev pub emul_eighths : (vtype width : ℕ) → ℕ
+emul_eighths vtype width = width * lmul_eighths vtype / sew vtype
+
+-- the registers that a group of that EMUL takes: a part of a register is one
+abbrev pub registers_of_group : (eighths : ℕ) → ℕ
+registers_of_group eighths = max 1 (eighths / 8)
