@@ -1,6 +1,6 @@
 -- The vector operands of an instruction as groups of registers: RISC-V "V" 1.0, sections 3.4.2, 5.2, 5.3, 7.3 and 7.8. A
 -- mask is one register, with elements of width 1.
-use Rattle.std.specs.Prelude.{ℕ, ◌+◌, ◌*◌, ◌/◌, max, Bool, true, false, ◌&&◌, nat_lt, List, [], ◌∷◌, ◌++◌, if◌then◌else◌}
+use Rattle.std.specs.Prelude.{ℕ, ◌+◌, ◌*◌, ◌/◌, Bool, true, false, ◌&&◌, nat_lt, List, [], ◌∷◌, ◌++◌, if◌then◌else◌}
 use Rattle.vx_rows.specs.Families.{operands_of}
 use Rattle.vx_rows.specs.Table.{class_of, shape_of}
 use Rattle.vx_rows.specs.declared.family.Operand.{Operand}
@@ -18,7 +18,8 @@ use Rattle.vx_rows.specs.declared.row.Second.{Second}
 use Rattle.vx_rows.specs.declared.row.Second.TheVariants as second
 use Rattle.vx_rows.specs.declared.row.Shape.{Shape}
 use Rattle.vx_rows.specs.declared.row.Shape.TheVariants as shape
-use Rattle.vx_vstate.specs.Vtype.{sew, lmul_eighths}
+use Rattle.vx_vstate.specs.Groups.{emul_eighths, registers_of_group}
+use Rattle.vx_vstate.specs.Vtype.{sew}
 use Rattle.vx_vstate.specs.declared.setting.Setting.{Setting}
 use Rattle.vx_legal.specs.declared.instr.Instr.{Instr}
 
@@ -31,13 +32,9 @@ pub record Group : Type 0 where
   pub emul_eighths : ℕ
   pub fields : ℕ
 
--- the registers of a group of so many eighths of a register: at least one
-abbrev pub registers_of : (emul_eighths : ℕ) → ℕ
-registers_of emul_eighths = max 1 (emul_eighths / 8)
-
 -- the registers that a group takes, with all fields
 abbrev pub extent : Group → ℕ
-extent g = g.fields * registers_of g.emul_eighths
+extent g = g.fields * registers_of_group g.emul_eighths
 
 -- two groups have a register in common
 abbrev pub meet : Group → Group → Bool
@@ -60,23 +57,17 @@ width_of Whole2 S = S
 width_of Whole4 S = S
 width_of Whole8 S = S
 
--- EMUL of an operand in eighths: EEW / SEW * LMUL, but one register for masks and single elements, and whole registers as
--- they are
-abbrev pub eighths_of : Operand → (sew lmul_eighths : ℕ) → ℕ
-eighths_of Absent S lmul = 0
-eighths_of Single S lmul = lmul
-eighths_of Double S lmul = 2 * lmul
-eighths_of Half S lmul = lmul / 2
-eighths_of Quarter S lmul = lmul / 4
-eighths_of Eighth S lmul = lmul / 8
-eighths_of Sixteen S lmul = 16 * lmul / S
-eighths_of Mask S lmul = 8
-eighths_of Element S lmul = 8
-eighths_of WideElement S lmul = 8
-eighths_of Whole1 S lmul = 8
-eighths_of Whole2 S lmul = 16
-eighths_of Whole4 S lmul = 32
-eighths_of Whole8 S lmul = 64
+-- EMUL of an operand in eighths; masks and single elements take one register, and whole registers are so many
+abbrev pub eighths_of : Operand → (vtype : ℕ) → ℕ
+eighths_of Absent vtype = 0
+eighths_of Mask vtype = 8
+eighths_of Element vtype = 8
+eighths_of WideElement vtype = 8
+eighths_of Whole1 vtype = 8
+eighths_of Whole2 vtype = 16
+eighths_of Whole4 vtype = 32
+eighths_of Whole8 vtype = 64
+eighths_of operand vtype = emul_eighths vtype (width_of operand (sew vtype))
 
 -- the mask that begins at a register
 abbrev pub mask_at : (register : ℕ) → Group
@@ -90,7 +81,7 @@ group_of operand at register = record {
   register = register;
   eew = width_of operand (sew at.vtype);
   is_mask = false;
-  emul_eighths = eighths_of operand (sew at.vtype) (lmul_eighths at.vtype);
+  emul_eighths = eighths_of operand at.vtype;
   fields = 1;
 } ∷ []
 
@@ -104,7 +95,7 @@ bits_of_eew E64 = 64
 -- a register as a group of elements of a width, of so many fields
 abbrev pub group_at : Setting → (register width fields : ℕ) → Group
 group_at at register width fields =
-    record { register = register; eew = width; is_mask = false; emul_eighths = width * lmul_eighths at.vtype / sew at.vtype; fields = fields }
+    record { register = register; eew = width; is_mask = false; emul_eighths = emul_eighths at.vtype width; fields = fields }
 
 -- what a vector load or store moves: elements of the encoded width; at indices of that width, elements of SEW; whole
 -- registers; or a mask

@@ -12,7 +12,8 @@ use Rattle.vx_rows.specs.declared.row.Class.{Class}
 use Rattle.vx_rows.specs.declared.row.Class.TheVariants as class
 use Rattle.vx_vstate.specs.Vtype.{vill, sew}
 use Rattle.vx_vstate.specs.declared.setting.Setting.{Setting}
-use Rattle.vx_legal.specs.Groups.{Group, mask_at, registers_of, extent, meet, destinations, sources}
+use Rattle.vx_vstate.specs.Groups.{registers_of_group}
+use Rattle.vx_legal.specs.Groups.{Group, mask_at, extent, meet, destinations, sources}
 use Rattle.vx_legal.specs.declared.instr.Instr.{Instr}
 
 -- the comparisons, and the carries and borrows that are masks
@@ -69,7 +70,7 @@ abbrev pub is_bad_width : Group → Bool
 is_bad_width g = not g.is_mask && not (nat_le 8 g.eew && nat_le g.eew 64)
 
 abbrev pub is_bad_group : Group → Bool
-is_bad_group g = is_bad_width g || not (nat_le 1 g.emul_eighths && nat_le g.emul_eighths 64) || not (g.register % registers_of g.emul_eighths == 0)
+is_bad_group g = is_bad_width g || not (nat_le 1 g.emul_eighths && nat_le g.emul_eighths 64) || not (g.register % registers_of_group g.emul_eighths == 0)
 
 abbrev pub has_bad_group : Instr → Setting → Bool
 has_bad_group i at = some_group (destinations i at) is_bad_group || some_group (sources i at) is_bad_group

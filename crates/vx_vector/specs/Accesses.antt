@@ -5,7 +5,8 @@ use Rattle.std.specs.List.{range_with_len}
 use Rattle.vx_rows.specs.declared.row.Addressing.{Addressing}
 use Rattle.vx_rows.specs.declared.row.Addressing.TheVariants.{Unit, FaultOnlyFirst, Whole, MaskBits, Strided, Unordered, Ordered}
 use Rattle.vx_rows.specs.declared.row.Eew.{Eew}
-use Rattle.vx_legal.specs.Groups.{bits_of_eew, moved, registers_of}
+use Rattle.vx_vstate.specs.Groups.{registers_of_group}
+use Rattle.vx_legal.specs.Groups.{bits_of_eew, moved}
 use Rattle.vx_legal.specs.declared.instr.Instr.{Instr}
 use Rattle.vx_vstate.specs.Registers.{element}
 use Rattle.vx_vstate.specs.declared.setting.Setting.{Setting}
@@ -77,7 +78,7 @@ module _ (m : Movement) where
 
   -- the registers from one field's to the next one's
   abbrev pub registers_of_field : ℕ
-  registers_of_field = registers_of (moved m.addressing m.encoded m.i m.at).emul_eighths
+  registers_of_field = registers_of_group (moved m.addressing m.encoded m.i m.at).emul_eighths
 
   abbrev pub movement_count : ℕ
   movement_count = count_by m.addressing m.at.vl m.at.vlen registers_of_field access_bits

@@ -7,7 +7,7 @@ pub record Lists : Type 0 where
   -- SEW
   pub sew : ℕ
   pub vl : ℕ
-  -- the elements of vs2, up to VLMAX
+  -- the elements of vs2, of which there are VLMAX, or one
   pub vs2 : List ℕ
   -- those of vs1, where a register stands in its place
   pub vs1 : List ℕ

@@ -18,7 +18,7 @@ pub record Numbers : Type 0 where
   pub b : ℕ
   -- the old element of vd
   pub d : ℕ
-  -- the element's bit of v0, in a row that reads v0 as an operand; else false
+  -- the element's bit of v0, where bit 25 is 0; else false
   pub m : Bool
 
 -- a value that wasn't clipped

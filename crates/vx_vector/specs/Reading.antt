@@ -6,7 +6,7 @@ use Rattle.vx_base.specs.Numbers.{reduced}
 use Rattle.vx_rows.specs.Families.{operands_of}
 use Rattle.vx_rows.specs.declared.family.Family.{Family}
 use Rattle.vx_rows.specs.declared.family.Operand.{Operand}
-use Rattle.vx_rows.specs.declared.family.Operand.TheVariants.{Whole1, Whole2, Whole4, Whole8}
+use Rattle.vx_rows.specs.declared.family.Operand.TheVariants.{Absent, Element, WideElement, Whole1, Whole2, Whole4, Whole8}
 use Rattle.vx_rows.specs.declared.row.First.{First}
 use Rattle.vx_rows.specs.declared.row.First.TheVariants as first
 use Rattle.vx_rows.specs.declared.row.Vm.{Vm}
@@ -93,17 +93,24 @@ module _ (r : Reading) where
     m = not r.places.vm && mask_bit i;
   }
 
-  -- so many elements of a register
-  abbrev pub elements_of : (register width count : ℕ) → List ℕ
-  elements_of register width count = map (element_of register width) (range_with_len 0 count)
+  -- how many elements an operand has that isn't made of whole registers
+  abbrev pub elements_in : Operand → ℕ
+  elements_in Absent = 0
+  elements_in Element = 1
+  elements_in WideElement = 1
+  elements_in operand = vlmax r.at.vlen r.at.vtype
+
+  -- the elements of an operand that begins at a register
+  abbrev pub elements_of : Operand → (register : ℕ) → List ℕ
+  elements_of operand register = map (element_of register (width_of operand sew_of)) (range_with_len 0 (elements_in operand))
 
   -- the operands as lists
   abbrev pub lists_of : Lists
   lists_of = record {
     sew = sew_of;
     vl = r.at.vl;
-    vs2 = elements_of r.places.vs2 vs2_width (vlmax r.at.vlen r.at.vtype);
-    vs1 = elim r.first [ first.Vector ↦ elements_of r.places.vs1 vs1_width (vlmax r.at.vlen r.at.vtype) | first.Integer ↦ [] | first.Signed ↦ [] | first.Unsigned ↦ [] | first.Fixed ↦ [] ];
+    vs2 = elements_of (operands_of r.family).vs2 r.places.vs2;
+    vs1 = elim r.first [ first.Vector ↦ elements_of (operands_of r.family).vs1 r.places.vs1 | first.Integer ↦ [] | first.Signed ↦ [] | first.Unsigned ↦ [] | first.Fixed ↦ [] ];
     x = number_of;
     active = map is_active (range_with_len 0 r.at.vl);
   }

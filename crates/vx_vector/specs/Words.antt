@@ -3,7 +3,7 @@
 -- list of all.
 use Rattle.std.specs.Prelude.{ℕ, ◌+◌, ◌-◌, ◌*◌, ◌/◌, min, max, Bool, not, nat_lt, List, [], ◌∷◌, ◌++◌, map, flat_map, if◌then◌else◌}
 use Rattle.std.specs.List.{range_with_len}
-use Rattle.vx_legal.specs.Groups.{eighths_of, registers_of}
+use Rattle.vx_legal.specs.Groups.{eighths_of}
 use Rattle.vx_rows.specs.Families.{operands_of, unit_of}
 use Rattle.vx_rows.specs.declared.family.Operand.{Operand}
 use Rattle.vx_rows.specs.declared.family.Operand.TheVariants.{Absent, Element, Mask}
@@ -11,8 +11,8 @@ use Rattle.vx_rows.specs.declared.family.Unit.{Unit}
 use Rattle.vx_rows.specs.declared.family.Unit.TheVariants.{Arithmetic, Multiply, Divide, Permute}
 use Rattle.vx_rows.specs.declared.row.First.{First}
 use Rattle.vx_rows.specs.declared.row.First.TheVariants as first
+use Rattle.vx_vstate.specs.Groups.{registers_of_group}
 use Rattle.vx_vstate.specs.Registers.{words_of_register, place_of, element_word}
-use Rattle.vx_vstate.specs.Vtype.{sew, lmul_eighths}
 use Rattle.vx_vector.specs.Reading.{Reading, destination_width, vs2_width, vs1_width, count_of}
 use Rattle.vx_vector.specs.Rules.{Rule, rule_of}
 use Rattle.vx_vector.specs.Rules.Rule.{Each, Index, Permute as Permutes, Reduce, Pack, Put, Tell}
@@ -20,7 +20,7 @@ use Rattle.vx_vector.specs.Rules.Rule.{Each, Index, Permute as Permutes, Reduce,
 module _ (r : Reading) where
   -- the registers of an operand
   abbrev pub registers_of_operand : Operand → ℕ
-  registers_of_operand operand = registers_of (eighths_of operand (sew r.at.vtype) (lmul_eighths r.at.vtype))
+  registers_of_operand operand = registers_of_group (eighths_of operand r.at.vtype)
 
   -- the places of all words of an operand that begins at a register
   abbrev pub places_of_operand : Operand → (register : ℕ) → List ℕ
@@ -86,7 +86,7 @@ module _ (r : Reading) where
       ++ place_of_element vs1_operand r.places.vs1 (vs1_width r) i
       ++ place_of_element mask_operand 0 1 i
 
-  -- the old word
+  -- the old word, of a row that has a destination in vector registers
   abbrev pub old_word : Operand → (w : ℕ) → List ℕ
   old_word Absent w = []
   old_word operand w = place_of r.at.vlen r.places.vd w ∷ []
