@@ -6,6 +6,8 @@
 //! of the definitions.
 #![tactic(auto)]
 
+mod laws;
 mod places;
 
+pub use laws::words_are_made;
 pub use places::{Places, Word};
