@@ -1,2 +1,4 @@
+pub mod Elements
 pub mod Members
 pub mod Suits
+pub mod Written

@@ -9,6 +9,8 @@ use Rattle.vx_rows.specs.declared.family.Operand.{Operand}
 use Rattle.vx_rows.specs.declared.family.Operand.TheVariants.{Absent, Single, Double, Half, Quarter, Eighth, Sixteen, Mask, Element, WideElement, Whole1, Whole2, Whole4, Whole8}
 use Rattle.vx_rows.specs.declared.family.Unit.{Unit as Execution}
 use Rattle.vx_rows.specs.declared.family.Unit.TheVariants.{Arithmetic, Multiply, Divide, Permute}
+use Rattle.vx_rows.specs.declared.row.Class.TheVariants.{VectorArithmetic}
+use Rattle.vx_legal.specs.Legal.{begins_at_first}
 use Rattle.vx_vstate.specs.Vtype.{vlmax}
 use Rattle.vx_vector.specs.Laws.{is_absent}
 use Rattle.vx_vector.specs.Reading.{Reading, whole_registers, elements_in, count_of}
@@ -43,17 +45,17 @@ is_whole Whole4 = true
 is_whole Whole8 = true
 is_whole other = false
 
--- a rule fits a unit and a destination
-abbrev pub fits : Rule → (all : Bool) → (destination : Operand) → Bool
-fits (Each f) all d = not all && (is_grouped d || is_whole d)
-fits (Index f) all d = not all && is_grouped d
-fits (Permutes f) all d = all && is_grouped d
-fits (Reduce f) all d = all && is_single d
-fits Pack all d = all && is_grouped d
-fits Put all d = all && is_single d
-fits (Tell f) all d = all && is_absent d
+-- a rule fits a unit, a destination, and whether the row has to begin at the first element
+abbrev pub fits : Rule → (all first : Bool) → (destination : Operand) → Bool
+fits (Each f) all first d = not all && (is_grouped d || is_whole d)
+fits (Index f) all first d = not all && is_grouped d
+fits (Permutes f) all first d = all && is_grouped d
+fits (Reduce f) all first d = all && is_single d
+fits Pack all first d = all && is_grouped d && first
+fits Put all first d = all && is_single d
+fits (Tell f) all first d = all && is_absent d
 
-pub rule_fits : (f : Family) → fits (rule_of f) (needs_all (family_line f).unit) (operands_of f).destination ≡ true
+pub rule_fits : (f : Family) → fits (rule_of f) (needs_all (family_line f).unit) (begins_at_first (VectorArithmetic f)) (operands_of f).destination ≡ true
 rule_fits Vadd = refl
 rule_fits other = refl
 

@@ -1,0 +1,93 @@
+-- The fold over the elements, element by element, and the words that it leaves.
+use Rattle.std.proofs.Common.{◌≡◌, ◌≢◌, ℕ, zero, suc, ◌+◌, ◌-◌, ◌*◌, ◌/◌, ◌%◌, ◌^◌, ◌<◌, ◌≤◌, Bool, true, false, IsTrue, nat_eq, ltb, List, length, map, Option, Some, None, slice_index, refl, sym, ap, ◌∙◌, subst, ⊎_elim, eq-or-lt_of_le, arith, mod-eq_of_lt, mul-le-mul_right}
+use Rattle.std.specs.List.{Contains, list_any, range_with_len}
+use Rattle.std.proofs.Math.Nat.{mod-mod}
+use Rattle.std.proofs.lemmas.Bool.{false≢true}
+use Rattle.std.proofs.lemmas.Nat.{div-mul-add, mod-mul-add, div-add-mod'}
+use Rattle.std.proofs.lemmas.List.FromFn.{length-range_with_len}
+use Rattle.vx_base.specs.Numbers.{field}
+use Rattle.vx_bits.specs.declared.saturation.Sat.{Sat}
+use Rattle.vx_packed.specs.Joined.{lane, joined, some_below}
+use Rattle.vx_rows.specs.Families.{operands_of}
+use Rattle.vx_rows.specs.declared.family.Operand.{Operand}
+use Rattle.vx_rows.specs.declared.family.Operand.TheVariants.{Absent}
+use Rattle.vx_legal.specs.Groups.{width_of}
+use Rattle.vx_vstate.specs.Registers.{words_of_register, words_of_all, place_of, word_at, element, element_word, element_bit, with_element, is_element_width}
+use Rattle.vx_vector.specs.Arithmetic.{becomes, with_result, after_elements, words_after, has_saturated, saturates}
+use Rattle.vx_vector.specs.Laws.{IsSound, IsPlaced, is_absent, value_after, per_word, element_after, made_word, word_saturates, made_words}
+use Rattle.vx_vector.specs.Reading.{Reading, sew_of, destination_width, element_of, elements_in, count_of}
+use Rattle.vx_vector.specs.Rules.{rule_of}
+use Rattle.vx_vector.specs.Words.{registers_of_operand, places_of_operand, destination_words}
+use Rattle.vx_vector.proofs.Members.{any_from, any_one, some_from, some_one, same_test}
+use Rattle.vx_vector.proofs.Written.{IsWritten, written}
+
+-- ---- what the crates below say
+
+pub record ElementLaws : Type 0 where
+  pub same : (vlen : ℕ) (words : List ℕ) (register width index value : ℕ) → place_of vlen register (element_word width index) < length words → element vlen (with_element vlen words register width index value) register width index ≡ value % 2 ^ width
+  pub other : (vlen : ℕ) (words : List ℕ) (register width index value other : ℕ) → index ≢ other → element vlen (with_element vlen words register width index value) register width other ≡ element vlen words register width other
+  pub place : (vlen : ℕ) (words : List ℕ) (register width index value place : ℕ) → place_of vlen register (element_word width index) ≢ place → slice_index (with_element vlen words register width index value) place ≡ slice_index words place
+  pub count : (vlen : ℕ) (words : List ℕ) (register width index value : ℕ) → length (with_element vlen words register width index value) ≡ length words
+  pub bits : (vlen : ℕ) (words : List ℕ) (register width index value place : ℕ) → IsTrue (is_element_width width) → ((k : ℕ) → slice_index words k < 2 ^ 64) → slice_index (with_element vlen words register width index value) place < 2 ^ 64
+  pub whole : (width n word : ℕ) → joined width n (lane width word) ≡ word % 2 ^ (n * width)
+  pub alike : (width n : ℕ) (f g : ℕ → ℕ) → ((k : ℕ) → k < n → f k % 2 ^ width ≡ g k % 2 ^ width) → joined width n f ≡ joined width n g
+
+-- ---- options
+
+none_from : {X : Type 0} (o : Option X) → ((x : X) → o ≡ Some x → ⊥) → o ≡ None
+none_from None h = refl
+none_from (Some x) h = absurd (h x refl)
+
+-- ---- the fold
+
+after-suc : (r : Reading) (n : ℕ) → after_elements r (suc n) ≡ with_result r n (becomes r n) (after_elements r n)
+unfolding after_elements
+after-suc r n = refl
+
+after-none : (r : Reading) → after_elements r 0 ≡ r.words
+unfolding after_elements
+after-none r = refl
+
+result-count : (e : ElementLaws) (r : Reading) (n : ℕ) (b : Option Sat) (words : List ℕ) → length (with_result r n b words) ≡ length words
+result-count e r n None words = refl
+result-count e r n (Some s) words = e.count r.at.vlen words r.places.vd (destination_width r) n s.value
+
+pub after-count : (e : ElementLaws) (r : Reading) (n : ℕ) → length (after_elements r n) ≡ length r.words
+after-count e r zero = ap length (after-none r)
+after-count e r (suc n) = ap length (after-suc r n) ∙ result-count e r n (becomes r n) (after_elements r n) ∙ after-count e r n
+
+result-other : (e : ElementLaws) (r : Reading) (n i : ℕ) (b : Option Sat) (words : List ℕ) → n ≢ i → element r.at.vlen (with_result r n b words) r.places.vd (destination_width r) i ≡ element r.at.vlen words r.places.vd (destination_width r) i
+result-other e r n i None words h = refl
+result-other e r n i (Some s) words h = e.other r.at.vlen words r.places.vd (destination_width r) n s.value i h
+
+result-same : (e : ElementLaws) (r : Reading) (n : ℕ) (b : Option Sat) (words : List ℕ) → ((s : Sat) → b ≡ Some s → place_of r.at.vlen r.places.vd (element_word (destination_width r) n) < length words) → element r.at.vlen (with_result r n b words) r.places.vd (destination_width r) n % 2 ^ destination_width r ≡ value_after b (element r.at.vlen words r.places.vd (destination_width r) n) % 2 ^ destination_width r
+result-same e r n None words h = refl
+result-same e r n (Some s) words h = ap (λ m. m % 2 ^ destination_width r) (e.same r.at.vlen words r.places.vd (destination_width r) n s.value (h s refl)) ∙ mod-mod s.value (2 ^ destination_width r)
+
+-- an element that isn't reached is as it was
+pub after-above : (e : ElementLaws) (r : Reading) (n i : ℕ) → n ≤ i → element r.at.vlen (after_elements r n) r.places.vd (destination_width r) i ≡ element_of r r.places.vd (destination_width r) i
+after-above e r zero i h = ap (λ words. element r.at.vlen words r.places.vd (destination_width r) i) (after-none r)
+after-above e r (suc n) i h =
+    let ne : n ≢ i = λ q. absurd (omega arith) in
+    ap (λ words. element r.at.vlen words r.places.vd (destination_width r) i) (after-suc r n)
+    ∙ result-other e r n i (becomes r n) (after_elements r n) ne
+    ∙ after-above e r n i (omega arith)
+
+HasRoom : Reading → Type 0
+HasRoom r = (i : ℕ) (s : Sat) → becomes r i ≡ Some s → place_of r.at.vlen r.places.vd (element_word (destination_width r) i) < length r.words
+
+-- an element that was reached is what it becomes
+after-below : (e : ElementLaws) (r : Reading) → ((i : ℕ) (s : Sat) → becomes r i ≡ Some s → place_of r.at.vlen r.places.vd (element_word (destination_width r) i) < length r.words) → (n i : ℕ) → i < n → element r.at.vlen (after_elements r n) r.places.vd (destination_width r) i % 2 ^ destination_width r ≡ element_after r i % 2 ^ destination_width r
+after-below e r room zero i h = absurd (omega arith)
+after-below e r room (suc n) i h =
+    let at_most : i ≤ n = omega arith in
+    ap (λ words. element r.at.vlen words r.places.vd (destination_width r) i % 2 ^ destination_width r) (after-suc r n)
+    ∙ ⊎_elim
+    (λ q. let p : n ≡ i = sym q in
+        subst (λ j. element r.at.vlen (with_result r n (becomes r n) (after_elements r n)) r.places.vd (destination_width r) j % 2 ^ destination_width r ≡ element_after r j % 2 ^ destination_width r) p
+        (result-same e r n (becomes r n) (after_elements r n) (λ s b. subst (λ m. place_of r.at.vlen r.places.vd (element_word (destination_width r) n) < m) (sym (after-count e r n)) (room n s b))
+        ∙ ap (λ m. value_after (becomes r n) m % 2 ^ destination_width r) (after-above e r n n (omega arith))))
+    (λ l. let ne : n ≢ i = λ q. absurd (omega arith) in
+        ap (λ m. m % 2 ^ destination_width r) (result-other e r n i (becomes r n) (after_elements r n) ne)
+        ∙ after-below e r room n i l)
+    (eq-or-lt_of_le at_most)
