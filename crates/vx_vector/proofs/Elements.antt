@@ -34,17 +34,17 @@ pub record ElementLaws : Type 0 where
 
 -- ---- options
 
-none_from : {X : Type 0} (o : Option X) → ((x : X) → o ≡ Some x → ⊥) → o ≡ None
+pub none_from : {X : Type 0} (o : Option X) → ((x : X) → o ≡ Some x → ⊥) → o ≡ None
 none_from None h = refl
 none_from (Some x) h = absurd (h x refl)
 
 -- ---- the fold
 
-after-suc : (r : Reading) (n : ℕ) → after_elements r (suc n) ≡ with_result r n (becomes r n) (after_elements r n)
+pub after-suc : (r : Reading) (n : ℕ) → after_elements r (suc n) ≡ with_result r n (becomes r n) (after_elements r n)
 unfolding after_elements
 after-suc r n = refl
 
-after-none : (r : Reading) → after_elements r 0 ≡ r.words
+pub after-none : (r : Reading) → after_elements r 0 ≡ r.words
 unfolding after_elements
 after-none r = refl
 
@@ -73,11 +73,8 @@ after-above e r (suc n) i h =
     ∙ result-other e r n i (becomes r n) (after_elements r n) ne
     ∙ after-above e r n i (omega arith)
 
-HasRoom : Reading → Type 0
-HasRoom r = (i : ℕ) (s : Sat) → becomes r i ≡ Some s → place_of r.at.vlen r.places.vd (element_word (destination_width r) i) < length r.words
-
 -- an element that was reached is what it becomes
-after-below : (e : ElementLaws) (r : Reading) → ((i : ℕ) (s : Sat) → becomes r i ≡ Some s → place_of r.at.vlen r.places.vd (element_word (destination_width r) i) < length r.words) → (n i : ℕ) → i < n → element r.at.vlen (after_elements r n) r.places.vd (destination_width r) i % 2 ^ destination_width r ≡ element_after r i % 2 ^ destination_width r
+pub after-below : (e : ElementLaws) (r : Reading) → ((i : ℕ) (s : Sat) → becomes r i ≡ Some s → place_of r.at.vlen r.places.vd (element_word (destination_width r) i) < length r.words) → (n i : ℕ) → i < n → element r.at.vlen (after_elements r n) r.places.vd (destination_width r) i % 2 ^ destination_width r ≡ element_after r i % 2 ^ destination_width r
 after-below e r room zero i h = absurd (omega arith)
 after-below e r room (suc n) i h =
     let at_most : i ≤ n = omega arith in
