@@ -15,7 +15,7 @@ use Rattle.vx_vector.specs.Arithmetic.{given, has_first, becomes, becomes_by}
 use Rattle.vx_vector.specs.Laws.{IsSound, made_words}
 use Rattle.vx_vector.specs.Lists.{chosen, packed}
 use Rattle.vx_vector.specs.Numbers.{plain}
-use Rattle.vx_vector.specs.Reading.{Reading, destination_width, vs2_width, whole_registers, elements_in, count_of, is_active, is_unmasked, mask_bit, numbers_at, lists_of, sew_of}
+use Rattle.vx_vector.specs.Reading.{Reading, destination_width, vs2_width, whole_registers, elements_in, count_of, is_active, is_unmasked_by, mask_bit, numbers_at, lists_of, sew_of}
 use Rattle.vx_vector.specs.Rules.{Rule, rule_of}
 use Rattle.vx_vector.specs.Rules.Rule.{Each, Index, Permute as Permutes, Reduce, Pack, Put, Tell}
 use Rattle.vx_vector.specs.Words.{words_holding, handled_by, made_by}
@@ -40,7 +40,7 @@ record IsAmong (r : Reading) (i : ℕ) : Type 0 where
 
 active_among : (r : Reading) (i : ℕ) → is_active r i ≡ true → IsAmong r i
 active_among r i h =
-    let parts = and_parts (leb r.at.vstart i && ltb i (count_of r)) (is_unmasked r || mask_bit r i) h in
+    let parts = and_parts (leb r.at.vstart i && ltb i (count_of r)) (is_unmasked_by r r.vm || mask_bit r i) h in
     let range = and_parts (leb r.at.vstart i) (ltb i (count_of r)) parts.0 in
     record { from = leb-true r.at.vstart i range.0; to = ltb-true i (count_of r) range.1 }
 

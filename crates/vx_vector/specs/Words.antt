@@ -72,8 +72,12 @@ module _ (r : Reading) where
   place_of_element operand register width i = place_of r.at.vlen register (element_word width i) ∷ []
 
   -- the operand in the place of vs1, where a register stands there
+  abbrev pub vs1_operand_by : First → Operand
+  vs1_operand_by first.Vector = (operands_of r.family).vs1
+  vs1_operand_by other = Absent
+
   abbrev pub vs1_operand : Operand
-  vs1_operand = elim r.first [ first.Vector ↦ (operands_of r.family).vs1 | first.Integer ↦ Absent | first.Signed ↦ Absent | first.Unsigned ↦ Absent | first.Fixed ↦ Absent ]
+  vs1_operand = vs1_operand_by r.first
 
   -- the mask in v0, where it is read
   abbrev pub mask_operand : Operand
