@@ -6,6 +6,8 @@ use Rattle.std.proofs.lemmas.Bool.{false≢true}
 use Rattle.std.proofs.lemmas.Nat.{div-mul-add, mod-mul-add, div-add-mod'}
 use Rattle.std.proofs.lemmas.List.FromFn.{length-range_with_len}
 use Rattle.vx_base.specs.Numbers.{field}
+use Rattle.vx_base.specs.Options.{is_register_length}
+use Rattle.vx_vstate.specs.Vtype.{vlmax}
 use Rattle.vx_bits.specs.declared.saturation.Sat.{Sat}
 use Rattle.vx_packed.specs.Joined.{lane, joined, some_below}
 use Rattle.vx_rows.specs.Families.{operands_of}
@@ -29,6 +31,7 @@ pub record ElementLaws : Type 0 where
   pub place : (vlen : ℕ) (words : List ℕ) (register width index value place : ℕ) → place_of vlen register (element_word width index) ≢ place → slice_index (with_element vlen words register width index value) place ≡ slice_index words place
   pub count : (vlen : ℕ) (words : List ℕ) (register width index value : ℕ) → length (with_element vlen words register width index value) ≡ length words
   pub bits : (vlen : ℕ) (words : List ℕ) (register width index value place : ℕ) → IsTrue (is_element_width width) → ((k : ℕ) → slice_index words k < 2 ^ 64) → slice_index (with_element vlen words register width index value) place < 2 ^ 64
+  pub mask : (vlen vtype index : ℕ) → IsTrue (is_register_length vlen) → index < vlmax vlen vtype → element_word 1 index < words_of_register vlen
   pub whole : (width n word : ℕ) → joined width n (lane width word) ≡ word % 2 ^ (n * width)
   pub alike : (width n : ℕ) (f g : ℕ → ℕ) → ((k : ℕ) → k < n → f k % 2 ^ width ≡ g k % 2 ^ width) → joined width n f ≡ joined width n g
 

@@ -1,5 +1,6 @@
 pub mod Elements
 pub mod Made
 pub mod Members
+pub mod Sources
 pub mod Suits
 pub mod Written

@@ -65,7 +65,7 @@ place-of width per i f =
 
 -- ---- a reading that is sound
 
-width-is : (r : Reading) → IsSound r → is_absent (operands_of r.family).destination ≡ false → is_element_width (destination_width r) ≡ true
+pub width-is : (r : Reading) → IsSound r → is_absent (operands_of r.family).destination ≡ false → is_element_width (destination_width r) ≡ true
 width-is r h present = ap (λ b. b || is_element_width (destination_width r)) (sym present) ∙ h.destination.width
 
 -- the words of the destination are in the list of all
