@@ -12,10 +12,11 @@ use Rattle.vx_rows.specs.declared.family.Operand.{Operand}
 use Rattle.vx_rows.specs.declared.family.Operand.TheVariants.{Absent}
 use Rattle.vx_legal.specs.Groups.{width_of}
 use Rattle.vx_vstate.specs.Registers.{words_of_register, words_of_all, place_of, word_at, element, element_word, element_bit, with_element, is_element_width}
-use Rattle.vx_vector.specs.Arithmetic.{becomes, with_result, after_elements, words_after, has_saturated, saturates}
+use Rattle.vx_vector.specs.Arithmetic.{becomes, becomes_by, told, told_by, with_result, after_elements, words_after, has_saturated, saturates}
 use Rattle.vx_vector.specs.Laws.{IsSound, IsPlaced, is_absent, value_after, per_word, element_after, made_word, word_saturates, made_words}
 use Rattle.vx_vector.specs.Reading.{Reading, sew_of, destination_width, element_of, elements_in, count_of}
-use Rattle.vx_vector.specs.Rules.{rule_of}
+use Rattle.vx_vector.specs.Rules.{Rule, rule_of}
+use Rattle.vx_vector.specs.Rules.Rule.{Each, Index, Permute as Permutes, Reduce, Pack, Put, Tell}
 use Rattle.vx_vector.specs.Words.{registers_of_operand, places_of_operand, destination_words, made_by, handled_by}
 use Rattle.vx_vector.proofs.Elements.{ElementLaws, after-none, after-suc, after-count, after-above, after-below, none_from}
 use Rattle.vx_vector.proofs.Members.{member_of_range, any_from, any_one, some_from, some_one, same_test}
@@ -192,3 +193,21 @@ unmade-stays e r w h unmade =
     stays e r (place_of r.at.vlen r.places.vd w)
     (λ i s b q. let same : element_word (destination_width r) i ≡ w = omega arith in unmade (subst (Contains (made_words r)) same (word-of-written r i s h b).0))
     (count_of r)
+
+-- ---- rows that tell an integer register
+
+told-nothing : (rule : Rule) (r : Reading) (x : ℕ) → told_by rule r ≡ Some x → (i : ℕ) → becomes_by rule r i ≡ None
+told-nothing (Tell f) r x h i = refl
+told-nothing (Each f) r x h i = absurd (cc)
+told-nothing (Index f) r x h i = absurd (cc)
+told-nothing (Permutes f) r x h i = absurd (cc)
+told-nothing (Reduce f) r x h i = absurd (cc)
+told-nothing Pack r x h i = absurd (cc)
+told-nothing Put r x h i = absurd (cc)
+
+unchanged : (r : Reading) → ((i : ℕ) → becomes r i ≡ None) → (n : ℕ) → after_elements r n ≡ r.words
+unchanged r h zero = after-none r
+unchanged r h (suc n) = after-suc r n ∙ ap (λ b. with_result r n b (after_elements r n)) (h n) ∙ unchanged r h n
+
+pub telling-stays : (r : Reading) (x : ℕ) → told r ≡ Some x → words_after r ≡ r.words
+telling-stays r x h = unchanged r (told-nothing (rule_of r.family) r x h) (count_of r)

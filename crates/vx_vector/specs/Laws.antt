@@ -62,9 +62,13 @@ module _ (r : Reading) where
   abbrev pub word_saturates : (w : ℕ) → Bool
   word_saturates w = some_below per_word (λ k. has_saturated (becomes r (w * per_word + k)))
 
-  -- the words of the destination that are made as the words are handled
+  -- the word of the destination that is made as word w is handled
+  abbrev pub made_by_handling : (w : ℕ) → ℕ
+  made_by_handling w = made_by r (rule_of r.family) w
+
+  -- all words of the destination that are made
   abbrev pub made_words : List ℕ
-  made_words = map (made_by r (rule_of r.family)) (handled_words r)
+  made_words = map made_by_handling (handled_words r)
 
 -- ---- the words that are needed
 

@@ -4,15 +4,21 @@ ghost use Rattle.vx_vector.specs.Arithmetic.{saturates, told, words_after};
 ghost use Rattle.vx_vector.specs.Laws.{
   AreSameAt,
   IsSound,
+  made_by_handling,
   made_word,
   made_words,
   reading_others,
   word_saturates,
 };
 ghost use Rattle.vx_vector.specs.Reading.{Reading};
-ghost use Rattle.vx_vector.specs.Rules.{rule_of};
-ghost use Rattle.vx_vector.specs.Words.{destination_words, made_by, source_words};
+ghost use Rattle.vx_vector.specs.Words.{destination_words, source_words};
 ghost use Rattle.vx_vstate.specs.Registers.{word_at};
+
+use vx_packed::joined_by_elements;
+use vx_vstate::{
+    elements_lie_in_their_group, other_elements_stay, other_indices_are_apart, set_element_is_read,
+    set_element_leaves_words,
+};
 
 /// Law of words: after the instruction, word `w` of the destination is the one that is made of its elements, and the
 /// instruction saturates where a word that it makes does. So words can be made one by one, in any order.
@@ -20,4 +26,41 @@ pub fn words_are_made()
     ensures value { (r : Reading) (w : ℕ) → IsSound r → w < length (destination_words r) → word_at r.at.vlen (words_after r) r.places.vd w ≡ made_word r w }
     ensures sat { (r : Reading) → IsSound r → saturates r ≡ list_any (word_saturates r) (made_words r) }
 {
+    joined_by_elements();
+    elements_lie_in_their_group();
+    set_element_is_read();
+    set_element_leaves_words();
+    other_elements_stay();
+    other_indices_are_apart();
+}
+
+/// Law of sources: the word that is made as word `w` is handled, whether it saturates, and what is put into an integer
+/// register depend on the words that word `w` needs alone.
+pub fn words_need_their_sources()
+    ensures value { (r : Reading) (others : List ℕ) (w : ℕ) → IsSound r → AreSameAt (source_words r w) r.words others → made_word r (made_by_handling r w) ≡ made_word (reading_others r others) (made_by_handling r w) }
+    ensures sat { (r : Reading) (others : List ℕ) (w : ℕ) → IsSound r → AreSameAt (source_words r w) r.words others → word_saturates r (made_by_handling r w) ≡ word_saturates (reading_others r others) (made_by_handling r w) }
+    ensures told { (r : Reading) (others : List ℕ) (w : ℕ) → IsSound r → AreSameAt (source_words r w) r.words others → told r ≡ told (reading_others r others) }
+{
+    joined_by_elements();
+    elements_lie_in_their_group();
+    set_element_is_read();
+    set_element_leaves_words();
+    other_elements_stay();
+    other_indices_are_apart();
+}
+
+/// Law of the rest: as many words stay as there were; words outside the destination and words that aren't made stay as they
+/// were; and a row that puts something into an integer register changes none.
+pub fn other_words_stay()
+    ensures count { (r : Reading) → length (words_after r) ≡ length r.words }
+    ensures outside { (r : Reading) (place : ℕ) → IsSound r → ¬ Contains (destination_words r) place → slice_index (words_after r) place ≡ slice_index r.words place }
+    ensures unmade { (r : Reading) (w : ℕ) → IsSound r → ¬ Contains (made_words r) w → word_at r.at.vlen (words_after r) r.places.vd w ≡ word_at r.at.vlen r.words r.places.vd w }
+    ensures telling { (r : Reading) (x : ℕ) → told r ≡ Some x → words_after r ≡ r.words }
+{
+    joined_by_elements();
+    elements_lie_in_their_group();
+    set_element_is_read();
+    set_element_leaves_words();
+    other_elements_stay();
+    other_indices_are_apart();
 }

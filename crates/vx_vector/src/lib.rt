@@ -9,5 +9,5 @@
 mod laws;
 mod places;
 
-pub use laws::words_are_made;
+pub use laws::{other_words_stay, words_are_made, words_need_their_sources};
 pub use places::{Places, Word};
