@@ -8,8 +8,10 @@ ghost use Rattle.vx_base.specs.Options.{is_register_length};
 ghost use Rattle.vx_vstate.specs.Registers.{
   words_of_register,
   place_of,
+  word_at,
   element,
   element_word,
+  element_bit,
   with_element,
   AreApart,
   is_byte_width,
@@ -42,7 +44,12 @@ pub fn other_registers_are_apart()
 pub fn set_element_leaves_words()
     ensures other { (vlen : ℕ) (words : List ℕ) (register width index value place : ℕ) → place_of vlen register (element_word width index) ≢ place → slice_index (with_element vlen words register width index value) place ≡ slice_index words place }
     ensures count { (vlen : ℕ) (words : List ℕ) (register width index value : ℕ) → length (with_element vlen words register width index value) ≡ length words }
-    ensures width { (vlen : ℕ) (words : List ℕ) (register width index value place : ℕ) → IsTrue (is_element_width width) → ((k : ℕ) → slice_index words k < 2 ^ 64) → slice_index (with_element vlen words register width index value) place < 2 ^ 64 }
+    ensures width { (vlen : ℕ) (words : List ℕ) (register width index value place : ℕ) → IsTrue (is_element_width width) → slice_index words place < 2 ^ 64 → slice_index (with_element vlen words register width index value) place < 2 ^ 64 }
+{}
+
+/// A word is its elements of any one width: it is the number below 2^64 that has them as its fields.
+pub fn word_is_its_elements()
+    ensures { (vlen : ℕ) (words : List ℕ) (register width w n : ℕ) → IsTrue (is_element_width width) → word_at vlen words register w < 2 ^ 64 → n < 2 ^ 64 → ((index : ℕ) → element_word width index ≡ w → element vlen words register width index ≡ field n (element_bit width index) width) → word_at vlen words register w ≡ n }
 {}
 
 /// An element of 8, 16, 32 or 64 bits is the number whose bytes, least first, are as many of the registers' bytes from
