@@ -30,7 +30,7 @@ pub record ElementLaws : Type 0 where
   pub other : (vlen : ℕ) (words : List ℕ) (register width index value other : ℕ) → index ≢ other → element vlen (with_element vlen words register width index value) register width other ≡ element vlen words register width other
   pub place : (vlen : ℕ) (words : List ℕ) (register width index value place : ℕ) → place_of vlen register (element_word width index) ≢ place → slice_index (with_element vlen words register width index value) place ≡ slice_index words place
   pub count : (vlen : ℕ) (words : List ℕ) (register width index value : ℕ) → length (with_element vlen words register width index value) ≡ length words
-  pub bits : (vlen : ℕ) (words : List ℕ) (register width index value place : ℕ) → IsTrue (is_element_width width) → ((k : ℕ) → slice_index words k < 2 ^ 64) → slice_index (with_element vlen words register width index value) place < 2 ^ 64
+  pub bits : (vlen : ℕ) (words : List ℕ) (register width index value place : ℕ) → IsTrue (is_element_width width) → slice_index words place < 2 ^ 64 → slice_index (with_element vlen words register width index value) place < 2 ^ 64
   pub mask : (vlen vtype index : ℕ) → IsTrue (is_register_length vlen) → index < vlmax vlen vtype → element_word 1 index < words_of_register vlen
   pub whole : (width n word : ℕ) → joined width n (lane width word) ≡ word % 2 ^ (n * width)
   pub alike : (width n : ℕ) (f g : ℕ → ℕ) → ((k : ℕ) → k < n → f k % 2 ^ width ≡ g k % 2 ^ width) → joined width n f ≡ joined width n g

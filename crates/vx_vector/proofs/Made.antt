@@ -91,14 +91,14 @@ element-is e r i h =
     (λ l. ap (λ m. m % 2 ^ destination_width r) (after-above e r (count_of r) i l ∙ sym (ap (λ b. value_after b (element_of r r.places.vd (destination_width r) i)) (nothing-behind r i h l))))
     (cases_lt i (count_of r))
 
-result-bits : (e : ElementLaws) (r : Reading) (n : ℕ) (b : Option Sat) (words : List ℕ) → is_element_width (destination_width r) ≡ true → ((k : ℕ) → slice_index words k < 2 ^ 64) → (place : ℕ) → slice_index (with_result r n b words) place < 2 ^ 64
-result-bits e r n None words w h place = h place
-result-bits e r n (Some s) words w h place = e.bits r.at.vlen words r.places.vd (destination_width r) n s.value place w h
+result-bits : (e : ElementLaws) (r : Reading) (n : ℕ) (b : Option Sat) (words : List ℕ) (place : ℕ) → is_element_width (destination_width r) ≡ true → slice_index words place < 2 ^ 64 → slice_index (with_result r n b words) place < 2 ^ 64
+result-bits e r n None words place w h = h
+result-bits e r n (Some s) words place w h = e.bits r.at.vlen words r.places.vd (destination_width r) n s.value place w h
 
-after-bits : (e : ElementLaws) (r : Reading) (n place : ℕ) → is_element_width (destination_width r) ≡ true → ((k : ℕ) → slice_index r.words k < 2 ^ 64) → slice_index (after_elements r n) place < 2 ^ 64
-after-bits e r zero place w h = subst (λ words. slice_index words place < 2 ^ 64) (sym (after-none r)) (h place)
+after-bits : (e : ElementLaws) (r : Reading) (n place : ℕ) → is_element_width (destination_width r) ≡ true → slice_index r.words place < 2 ^ 64 → slice_index (after_elements r n) place < 2 ^ 64
+after-bits e r zero place w h = subst (λ words. slice_index words place < 2 ^ 64) (sym (after-none r)) h
 after-bits e r (suc n) place w h =
-    subst (λ words. slice_index words place < 2 ^ 64) (sym (after-suc r n)) (result-bits e r n (becomes r n) (after_elements r n) w (λ k. after-bits e r n k w h) place)
+    subst (λ words. slice_index words place < 2 ^ 64) (sym (after-suc r n)) (result-bits e r n (becomes r n) (after_elements r n) place w (after-bits e r n place w h))
 
 -- a word is that of its elements
 pub word-is : (e : ElementLaws) (r : Reading) (w : ℕ) → IsSound r → is_absent (operands_of r.family).destination ≡ false → word_at r.at.vlen (words_after r) r.places.vd w ≡ made_word r w
@@ -106,7 +106,7 @@ word-is e r w h present =
     let width = width-is r h present in
     let f = filled (destination_width r) width in
     let word = word_at r.at.vlen (words_after r) r.places.vd w in
-    let small : word < 2 ^ (per_word r * destination_width r) = subst (λ n. word < 2 ^ n) (sym f.whole) (after-bits e r (count_of r) (place_of r.at.vlen r.places.vd w) width h.bits) in
+    let small : word < 2 ^ (per_word r * destination_width r) = subst (λ n. word < 2 ^ n) (sym f.whole) (after-bits e r (count_of r) (place_of r.at.vlen r.places.vd w) width (h.bits (place_of r.at.vlen r.places.vd w))) in
     sym (mod-eq_of_lt small)
     ∙ sym (e.whole (destination_width r) (per_word r) word)
     ∙ e.alike (destination_width r) (per_word r) (lane (destination_width r) word) (λ k. element_after r (w * per_word r + k))
