@@ -1,27 +1,14 @@
 -- The fold over the elements, element by element, and the words that it leaves.
-use Rattle.std.proofs.Common.{◌≡◌, ◌≢◌, ℕ, zero, suc, ◌+◌, ◌-◌, ◌*◌, ◌/◌, ◌%◌, ◌^◌, ◌<◌, ◌≤◌, Bool, true, false, IsTrue, nat_eq, ltb, List, length, map, Option, Some, None, slice_index, refl, sym, ap, ◌∙◌, subst, ⊎_elim, eq-or-lt_of_le, arith, mod-eq_of_lt, mul-le-mul_right}
-use Rattle.std.specs.List.{Contains, list_any, range_with_len}
+use Rattle.std.proofs.Common.{◌≡◌, ◌≢◌, ℕ, zero, suc, ◌*◌, ◌%◌, ◌^◌, ◌<◌, ◌≤◌, IsTrue, List, length, Option, Some, None, slice_index, refl, sym, ap, ◌∙◌, subst, ⊎_elim, eq-or-lt_of_le, arith}
 use Rattle.std.proofs.Math.Nat.{mod-mod}
-use Rattle.std.proofs.lemmas.Bool.{false≢true}
-use Rattle.std.proofs.lemmas.Nat.{div-mul-add, mod-mul-add, div-add-mod'}
-use Rattle.std.proofs.lemmas.List.FromFn.{length-range_with_len}
-use Rattle.vx_base.specs.Numbers.{field}
 use Rattle.vx_base.specs.Options.{is_register_length}
 use Rattle.vx_vstate.specs.Vtype.{vlmax}
 use Rattle.vx_bits.specs.declared.saturation.Sat.{Sat}
-use Rattle.vx_packed.specs.Joined.{lane, joined, some_below}
-use Rattle.vx_rows.specs.Families.{operands_of}
-use Rattle.vx_rows.specs.declared.family.Operand.{Operand}
-use Rattle.vx_rows.specs.declared.family.Operand.TheVariants.{Absent}
-use Rattle.vx_legal.specs.Groups.{width_of}
-use Rattle.vx_vstate.specs.Registers.{words_of_register, words_of_all, place_of, word_at, element, element_word, element_bit, with_element, is_element_width}
-use Rattle.vx_vector.specs.Arithmetic.{becomes, with_result, after_elements, words_after, has_saturated, saturates}
-use Rattle.vx_vector.specs.Laws.{IsSound, IsPlaced, is_absent, value_after, per_word, element_after, made_word, word_saturates, made_words}
-use Rattle.vx_vector.specs.Reading.{Reading, sew_of, destination_width, element_of, elements_in, count_of}
-use Rattle.vx_vector.specs.Rules.{rule_of}
-use Rattle.vx_vector.specs.Words.{registers_of_operand, places_of_operand, destination_words}
-use Rattle.vx_vector.proofs.Members.{any_from, any_one, some_from, some_one, same_test}
-use Rattle.vx_vector.proofs.Written.{IsWritten, written}
+use Rattle.vx_packed.specs.Joined.{lane, joined}
+use Rattle.vx_vstate.specs.Registers.{words_of_register, place_of, element, element_word, with_element, is_element_width}
+use Rattle.vx_vector.specs.Arithmetic.{becomes, with_result, after_elements}
+use Rattle.vx_vector.specs.Laws.{value_after, element_after}
+use Rattle.vx_vector.specs.Reading.{Reading, destination_width, element_of}
 
 -- ---- what the crates below say
 
@@ -84,10 +71,10 @@ after-below e r room (suc n) i h =
     ap (λ words. element r.at.vlen words r.places.vd (destination_width r) i % 2 ^ destination_width r) (after-suc r n)
     ∙ ⊎_elim
     (λ q. let p : n ≡ i = sym q in
-        subst (λ j. element r.at.vlen (with_result r n (becomes r n) (after_elements r n)) r.places.vd (destination_width r) j % 2 ^ destination_width r ≡ element_after r j % 2 ^ destination_width r) p
-        (result-same e r n (becomes r n) (after_elements r n) (λ s b. subst (λ m. place_of r.at.vlen r.places.vd (element_word (destination_width r) n) < m) (sym (after-count e r n)) (room n s b))
-        ∙ ap (λ m. value_after (becomes r n) m % 2 ^ destination_width r) (after-above e r n n (omega arith))))
+    subst (λ j. element r.at.vlen (with_result r n (becomes r n) (after_elements r n)) r.places.vd (destination_width r) j % 2 ^ destination_width r ≡ element_after r j % 2 ^ destination_width r) p
+    (result-same e r n (becomes r n) (after_elements r n) (λ s b. subst (λ m. place_of r.at.vlen r.places.vd (element_word (destination_width r) n) < m) (sym (after-count e r n)) (room n s b))
+    ∙ ap (λ m. value_after (becomes r n) m % 2 ^ destination_width r) (after-above e r n n (omega arith))))
     (λ l. let ne : n ≢ i = λ q. absurd (omega arith) in
-        ap (λ m. m % 2 ^ destination_width r) (result-other e r n i (becomes r n) (after_elements r n) ne)
-        ∙ after-below e r room n i l)
+    ap (λ m. m % 2 ^ destination_width r) (result-other e r n i (becomes r n) (after_elements r n) ne)
+    ∙ after-below e r room n i l)
     (eq-or-lt_of_le at_most)

@@ -1,7 +1,7 @@
 -- What a legal instruction reads is sound.
-use Rattle.std.proofs.Common.{◌≡◌, ℕ, zero, suc, ◌+◌, ◌-◌, ◌*◌, ◌/◌, ◌%◌, ◌^◌, ◌<◌, ◌≤◌, Bool, true, false, not, ◌&&◌, ◌||◌, IsTrue, nat_eq, ltb, leb, if◌then◌else◌, List, [], ◌∷◌, ◌++◌, length, max, Option, Some, None, slice_index, refl, sym, ap, ◌∙◌, subst, ⊎_elim, arith}
+use Rattle.std.proofs.Common.{◌≡◌, ℕ, suc, ◌+◌, ◌*◌, ◌/◌, ◌%◌, ◌^◌, ◌<◌, ◌≤◌, Bool, true, false, not, ◌&&◌, ◌||◌, IsTrue, nat_eq, leb, List, [], ◌∷◌, length, Some, None, slice_index, refl, sym, ap, ◌∙◌, subst, ⊎_elim, arith}
 use Rattle.std.specs.List.{list_any}
-use Rattle.std.proofs.lemmas.Bool.{not-true, not-false, false≢true, true≢false, or_parts, and_parts, and_cases, cases_Bool, leb-true, eqb-true, or_cases}
+use Rattle.std.proofs.lemmas.Bool.{not-false, false≢true, true≢false, or_parts, and_parts, and_cases, leb-true, eqb-true, or_cases}
 use Rattle.std.proofs.lemmas.Bool.Decides.{nat_tests}
 use Rattle.std.proofs.lemmas.List.Folds.{list_any-append}
 use Rattle.std.proofs.lemmas.Nat.{div_below}
@@ -12,11 +12,25 @@ use Rattle.vx_rows.specs.Lines.{elem_line, widen_line, fixed_line, mask_line, pe
 use Rattle.vx_rows.specs.Table.{class_of, shape_of}
 use Rattle.vx_rows.specs.declared.family.Family.{Family}
 use Rattle.vx_rows.specs.declared.family.Operand.{Operand}
-use Rattle.vx_rows.specs.declared.family.Operand.TheVariants.{Absent, Single, Double, Half, Quarter, Eighth, Sixteen, Mask, Element, WideElement, Whole1, Whole2, Whole4, Whole8}
+use Rattle.vx_rows.specs.declared.family.Operand.TheVariants.{Absent, Mask, Element, WideElement, Whole1, Whole2, Whole4, Whole8}
 use Rattle.vx_rows.specs.declared.op.Op.{Op}
 use Rattle.vx_rows.specs.declared.op.Op.TheVariants.{Scalar, Set, Elem, Widen, Fixed, Mask as Masks, Perm, Memory}
+use Rattle.vx_rows.specs.declared.op.ScalarOp.{ScalarOp}
+use Rattle.vx_rows.specs.declared.op.ScalarOp.TheVariants.{Lui}
+use Rattle.vx_rows.specs.declared.op.SetOp.{SetOp}
+use Rattle.vx_rows.specs.declared.op.SetOp.TheVariants.{Vsetvli}
 use Rattle.vx_rows.specs.declared.op.ElemOp.{ElemOp}
 use Rattle.vx_rows.specs.declared.op.ElemOp.TheVariants.{VaddVv}
+use Rattle.vx_rows.specs.declared.op.WidenOp.{WidenOp}
+use Rattle.vx_rows.specs.declared.op.WidenOp.TheVariants.{VadcVvm}
+use Rattle.vx_rows.specs.declared.op.FixedOp.{FixedOp}
+use Rattle.vx_rows.specs.declared.op.FixedOp.TheVariants.{VsadduVv}
+use Rattle.vx_rows.specs.declared.op.MaskOp.{MaskOp}
+use Rattle.vx_rows.specs.declared.op.MaskOp.TheVariants.{VredsumVs}
+use Rattle.vx_rows.specs.declared.op.PermOp.{PermOp}
+use Rattle.vx_rows.specs.declared.op.PermOp.TheVariants.{VrgatherVv}
+use Rattle.vx_rows.specs.declared.op.MemoryOp.{MemoryOp}
+use Rattle.vx_rows.specs.declared.op.MemoryOp.TheVariants.{Vle8}
 use Rattle.vx_rows.specs.declared.row.Class.{Class}
 use Rattle.vx_rows.specs.declared.row.Class.TheVariants.{VectorArithmetic}
 use Rattle.vx_rows.specs.declared.row.First.{First}
@@ -26,8 +40,8 @@ use Rattle.vx_rows.specs.declared.row.Second.TheVariants as second
 use Rattle.vx_rows.specs.declared.row.Shape.{Shape}
 use Rattle.vx_rows.specs.declared.row.Shape.TheVariants.{Vector}
 use Rattle.vx_rows.specs.declared.row.Vm.{Vm}
-use Rattle.vx_legal.specs.Groups.{Group, width_of, eighths_of, group_of, first_source, second_source, destinations_as, sources_as}
-use Rattle.vx_legal.specs.Legal.{is_bad_width, is_bad_group, is_illegal, begins_at_first, lacks_configuration, has_bad_group, has_long_segment, overwrites_mask, overlaps_badly, meets_source, begins_late, is_too_wide}
+use Rattle.vx_legal.specs.Groups.{width_of, group_of, first_source, second_source, destinations_as, sources_as}
+use Rattle.vx_legal.specs.Legal.{is_bad_group, is_illegal, begins_at_first, lacks_configuration, has_bad_group, has_long_segment, overwrites_mask, overlaps_badly, meets_source, begins_late, is_too_wide}
 use Rattle.vx_legal.specs.declared.instr.Instr.{Instr}
 use Rattle.vx_vstate.specs.Groups.{emul_eighths, registers_of_group, is_group_size}
 use Rattle.vx_vstate.specs.Registers.{words_of_register, words_of_all, element_word, is_byte_width, is_element_width}
@@ -35,8 +49,8 @@ use Rattle.vx_vstate.specs.Vtype.{sew, vlmax, is_vtype}
 use Rattle.vx_vstate.specs.declared.setting.Setting.{Setting}
 use Rattle.vx_vector.specs.Instructions.{reading_as, reading_of, instr_at, IsLegal}
 use Rattle.vx_vector.specs.Laws.{IsSound, IsPlaced, is_absent}
-use Rattle.vx_vector.specs.Reading.{Reading, sew_of, elements_in}
-use Rattle.vx_vector.specs.Words.{registers_of_operand, vs1_operand, vs1_operand_by}
+use Rattle.vx_vector.specs.Reading.{Reading, sew_of}
+use Rattle.vx_vector.specs.Words.{vs1_operand_by}
 use Rattle.vx_vector.specs.declared.places.Places.{Places}
 
 -- what the vector state's crate says of groups
@@ -195,3 +209,133 @@ placed L r other register b h =
       room = room (registers_of_group emul) register (L.registers r.at.vtype width byte is.least is.most) b is.aligned;
       within = λ i l. L.group r.at.vlen r.at.vtype width i r.at.vlen_in_range byte is.least l;
     }
+
+-- ---- rows
+
+-- a row without a register in the place of vs2 has no operand there
+row_fits : Class → Shape → Bool
+row_fits (VectorArithmetic family) (Vector first second.Fixed vm) = is_absent (operands_of family).vs2
+row_fits class shape = true
+
+scalar-fits : (o : ScalarOp) → row_fits (scalar_line o).class (scalar_line o).shape ≡ true
+unfolding row_fits
+scalar-fits Lui = refl
+scalar-fits other = refl
+
+set-fits : (o : SetOp) → row_fits (set_line o).class (set_line o).shape ≡ true
+unfolding row_fits
+set-fits Vsetvli = refl
+set-fits other = refl
+
+elem-fits : (o : ElemOp) → row_fits (elem_line o).class (elem_line o).shape ≡ true
+unfolding row_fits
+elem-fits VaddVv = refl
+elem-fits other = refl
+
+widen-fits : (o : WidenOp) → row_fits (widen_line o).class (widen_line o).shape ≡ true
+unfolding row_fits
+widen-fits VadcVvm = refl
+widen-fits other = refl
+
+fixed-fits : (o : FixedOp) → row_fits (fixed_line o).class (fixed_line o).shape ≡ true
+unfolding row_fits
+fixed-fits VsadduVv = refl
+fixed-fits other = refl
+
+mask-fits : (o : MaskOp) → row_fits (mask_line o).class (mask_line o).shape ≡ true
+unfolding row_fits
+mask-fits VredsumVs = refl
+mask-fits other = refl
+
+perm-fits : (o : PermOp) → row_fits (perm_line o).class (perm_line o).shape ≡ true
+unfolding row_fits
+perm-fits VrgatherVv = refl
+perm-fits other = refl
+
+memory-fits : (o : MemoryOp) → row_fits (memory_line o).class (memory_line o).shape ≡ true
+unfolding row_fits
+memory-fits Vle8 = refl
+memory-fits other = refl
+
+row-fits : (op : Op) → row_fits (class_of op) (shape_of op) ≡ true
+row-fits (Scalar o) = scalar-fits o
+row-fits (Set o) = set-fits o
+row-fits (Elem o) = elem-fits o
+row-fits (Widen o) = widen-fits o
+row-fits (Fixed o) = fixed-fits o
+row-fits (Masks o) = mask-fits o
+row-fits (Perm o) = perm-fits o
+row-fits (Memory o) = memory-fits o
+
+-- ---- an instruction
+
+placed-absent : (r : Reading) (register : ℕ) → register < 32 → IsPlaced r Absent register
+placed-absent r register b = record { width = refl; room = omega arith; within = λ i l. absurd (omega arith) }
+
+placed-first : (L : GroupLaws) (r : Reading) (f : First) (i : Instr) → i.rs1 ≡ r.places.vs1 → r.places.vs1 < 32 → list_any is_bad_group (first_source f (operands_of r.family).vs1 i r.at) ≡ false → IsPlaced r (vs1_operand_by r f) r.places.vs1
+placed-first L r first.Vector i e b h = placed L r (operands_of r.family).vs1 r.places.vs1 b (subst (λ register. list_any is_bad_group (group_of (operands_of r.family).vs1 r.at register) ≡ false) e h)
+placed-first L r other i e b h = placed-absent r r.places.vs1 b
+
+absent-placed : (r : Reading) (o : Operand) (register : ℕ) → is_absent o ≡ true → register < 32 → IsPlaced r o register
+absent-placed r Absent register a b = placed-absent r register b
+absent-placed r other register a b = absurd (false≢true a)
+
+placed-second : (L : GroupLaws) (r : Reading) (s : Second) (i : Instr) → row_fits (VectorArithmetic r.family) (Vector r.first s r.vm) ≡ true → i.rs2 ≡ r.places.vs2 → r.places.vs2 < 32 → list_any is_bad_group (second_source s (operands_of r.family).vs2 i r.at) ≡ false → IsPlaced r (operands_of r.family).vs2 r.places.vs2
+unfolding row_fits
+placed-second L r second.Vector i f e b h = placed L r (operands_of r.family).vs2 r.places.vs2 b (subst (λ register. list_any is_bad_group (group_of (operands_of r.family).vs2 r.at register) ≡ false) e h)
+placed-second L r second.Fixed i f e b h = absent-placed r (operands_of r.family).vs2 r.places.vs2 f b
+
+-- the rules of legality that are needed, over a class and a shape
+record IsAccepted (class : Class) (shape : Shape) (i : Instr) (at : Setting) : Type 0 where
+  pub fits : row_fits class shape ≡ true
+  pub destinations : list_any is_bad_group (destinations_as class i at) ≡ false
+  pub sources : list_any is_bad_group (sources_as class shape i at) ≡ false
+  pub begins : (not (nat_eq at.vstart 0) && begins_at_first class) ≡ false
+
+some-is : {X : Type 0} (x y : X) → Some x ≡ Some y → x ≡ y
+some-is x y h = cc
+
+none-some : {X : Type 0} (y : X) → None ≡ Some y → ⊥
+none-some y h = cc
+
+start-is : (n : ℕ) (b : Bool) → (not (nat_eq n 0) && b) ≡ false → b ≡ true → n ≡ 0
+start-is n b h e =
+    ⊎_elim
+    (λ f. eqb-true n 0 (not-false (nat_eq n 0) f))
+    (λ f. absurd (true≢false (sym e ∙ f)))
+    (and_cases (not (nat_eq n 0)) b h)
+
+sound-reading : (L : GroupLaws) (family : Family) (f : First) (s : Second) (v : Vm) (op : Op) (at : Setting) (places : Places) (words : List ℕ) → places.vd < 32 → places.vs1 < 32 → places.vs2 < 32 → IsAccepted (VectorArithmetic family) (Vector f s v) (instr_at op places) at → length words ≡ words_of_all at.vlen → ((place : ℕ) → slice_index words place < 2 ^ 64) → IsSound (record { family = family; first = f; vm = v; at = at; places = places; words = words })
+sound-reading L family f s v op at places words vd vs1 vs2 h count bits =
+    let r : Reading = record { family = family; first = f; vm = v; at = at; places = places; words = words } in
+    let i = instr_at op places in
+    let parts = or_parts (list_any is_bad_group (second_source s (operands_of family).vs2 i at)) (list_any is_bad_group (first_source f (operands_of family).vs1 i at)) (sym (list_any-append is_bad_group (second_source s (operands_of family).vs2 i at) (first_source f (operands_of family).vs1 i at)) ∙ h.sources) in
+    record {
+      count = count;
+      bits = bits;
+      destination = placed L r (operands_of family).destination places.vd vd h.destinations;
+      vs2 = placed-second L r s i h.fits refl vs2 parts.0;
+      vs1 = placed-first L r f i refl vs1 parts.1;
+      start = start-is at.vstart (begins_at_first (VectorArithmetic family)) h.begins;
+    }
+
+sound-as : (L : GroupLaws) (class : Class) (shape : Shape) (op : Op) (at : Setting) (places : Places) (words : List ℕ) (r : Reading) → places.vd < 32 → places.vs1 < 32 → places.vs2 < 32 → IsAccepted class shape (instr_at op places) at → length words ≡ words_of_all at.vlen → ((place : ℕ) → slice_index words place < 2 ^ 64) → reading_as class shape at places words ≡ Some r → IsSound r
+sound-as L (VectorArithmetic family) (Vector f s v) op at places words r vd vs1 vs2 h count bits e =
+    subst IsSound (some-is _ r e) (sound-reading L family f s v op at places words vd vs1 vs2 h count bits)
+sound-as L class shape op at places words r vd vs1 vs2 h count bits e = absurd (none-some r e)
+
+accepted : (i : Instr) (at : Setting) → is_illegal i at ≡ false → row_fits (class_of i.op) (shape_of i.op) ≡ true → IsAccepted (class_of i.op) (shape_of i.op) i at
+accepted i at h f =
+    let a = or_parts (lacks_configuration i at || has_bad_group i at || has_long_segment i at || overwrites_mask i at || overlaps_badly i at || meets_source i at || begins_late i at) (is_too_wide i at) h in
+    let b = or_parts (lacks_configuration i at || has_bad_group i at || has_long_segment i at || overwrites_mask i at || overlaps_badly i at || meets_source i at) (begins_late i at) a.0 in
+    let c = or_parts (lacks_configuration i at || has_bad_group i at || has_long_segment i at || overwrites_mask i at || overlaps_badly i at) (meets_source i at) b.0 in
+    let d = or_parts (lacks_configuration i at || has_bad_group i at || has_long_segment i at || overwrites_mask i at) (overlaps_badly i at) c.0 in
+    let e = or_parts (lacks_configuration i at || has_bad_group i at || has_long_segment i at) (overwrites_mask i at) d.0 in
+    let g = or_parts (lacks_configuration i at || has_bad_group i at) (has_long_segment i at) e.0 in
+    let k = or_parts (lacks_configuration i at) (has_bad_group i at) g.0 in
+    let groups = or_parts (list_any is_bad_group (destinations_as (class_of i.op) i at)) (list_any is_bad_group (sources_as (class_of i.op) (shape_of i.op) i at)) k.1 in
+    record { fits = f; destinations = groups.0; sources = groups.1; begins = b.1 }
+
+pub legal-sound : (L : GroupLaws) (op : Op) (at : Setting) (places : Places) (words : List ℕ) (r : Reading) → IsLegal op at places → length words ≡ words_of_all at.vlen → ((place : ℕ) → slice_index words place < 2 ^ 64) → reading_of op at places words ≡ Some r → IsSound r
+legal-sound L op at places words r h count bits e =
+    sound-as L (class_of op) (shape_of op) op at places words r h.vd h.vs1 h.vs2 (accepted (instr_at op places) at h.legal (row-fits op)) count bits e

@@ -1,26 +1,24 @@
 -- The words that the fold leaves.
-use Rattle.std.proofs.Common.{◌≡◌, ◌≢◌, ℕ, zero, suc, ◌+◌, ◌-◌, ◌*◌, ◌/◌, ◌%◌, ◌^◌, ◌<◌, ◌≤◌, Bool, true, false, IsTrue, nat_eq, ltb, ◌||◌, List, [], length, map, Option, Some, None, slice_index, refl, sym, ap, ◌∙◌, subst, ⊎_elim, eq-or-lt_of_le, arith, mod-eq_of_lt, mul-le-mul_right}
-use Rattle.std.specs.List.{Contains, list_any, range_with_len}
-use Rattle.std.proofs.lemmas.Bool.{false≢true, cases_lt, cases_eq}
+use Rattle.std.proofs.Common.{◌≡◌, ◌≢◌, ℕ, zero, suc, ◌+◌, ◌*◌, ◌/◌, ◌%◌, ◌^◌, ◌<◌, ◌≤◌, Bool, true, false, ◌||◌, List, length, Option, Some, None, slice_index, refl, sym, ap, ◌∙◌, subst, ⊎_elim, arith, mod-eq_of_lt, mul-le-mul_right}
+use Rattle.std.specs.List.{Contains, list_any}
+use Rattle.std.proofs.lemmas.Bool.{false≢true, cases_lt}
 use Rattle.std.proofs.lemmas.Nat.{div-mul-add, mod-mul-add, div-add-mod', mod_below}
-use Rattle.std.proofs.lemmas.List.FromFn.{length-range_with_len}
 use Rattle.vx_base.specs.Numbers.{field}
 use Rattle.vx_bits.specs.declared.saturation.Sat.{Sat}
-use Rattle.vx_packed.specs.Joined.{lane, joined, some_below}
+use Rattle.vx_packed.specs.Joined.{lane}
 use Rattle.vx_rows.specs.Families.{operands_of}
 use Rattle.vx_rows.specs.declared.family.Operand.{Operand}
 use Rattle.vx_rows.specs.declared.family.Operand.TheVariants.{Absent}
-use Rattle.vx_legal.specs.Groups.{width_of}
-use Rattle.vx_vstate.specs.Registers.{words_of_register, words_of_all, place_of, word_at, element, element_word, element_bit, with_element, is_element_width}
+use Rattle.vx_vstate.specs.Registers.{words_of_register, place_of, word_at, element, element_word, is_element_width}
 use Rattle.vx_vector.specs.Arithmetic.{becomes, becomes_by, told, told_by, with_result, after_elements, words_after, has_saturated, saturates}
-use Rattle.vx_vector.specs.Laws.{IsSound, IsPlaced, is_absent, value_after, per_word, element_after, made_word, word_saturates, made_words}
-use Rattle.vx_vector.specs.Reading.{Reading, sew_of, destination_width, element_of, elements_in, count_of}
+use Rattle.vx_vector.specs.Laws.{IsSound, is_absent, value_after, per_word, element_after, made_word, word_saturates, made_words}
+use Rattle.vx_vector.specs.Reading.{Reading, destination_width, element_of, elements_in, count_of}
 use Rattle.vx_vector.specs.Rules.{Rule, rule_of}
 use Rattle.vx_vector.specs.Rules.Rule.{Each, Index, Permute as Permutes, Reduce, Pack, Put, Tell}
-use Rattle.vx_vector.specs.Words.{registers_of_operand, places_of_operand, destination_words, made_by, handled_by}
-use Rattle.vx_vector.proofs.Elements.{ElementLaws, after-none, after-suc, after-count, after-above, after-below, none_from}
+use Rattle.vx_vector.specs.Words.{registers_of_operand, places_of_operand, destination_words}
+use Rattle.vx_vector.proofs.Elements.{ElementLaws, after-none, after-suc, after-above, after-below, none_from}
 use Rattle.vx_vector.proofs.Members.{member_of_range, any_from, any_one, some_from, some_one, same_test}
-use Rattle.vx_vector.proofs.Written.{IsWritten, written}
+use Rattle.vx_vector.proofs.Written.{written}
 
 -- ---- elements as lanes of words
 

@@ -1,5 +1,5 @@
 -- A word that is made depends on the words that it needs alone.
-use Rattle.std.proofs.Common.{◌≡◌, ℕ, zero, suc, ◌+◌, ◌-◌, ◌*◌, ◌/◌, ◌%◌, ◌^◌, ◌<◌, ◌≤◌, Bool, true, false, not, ◌&&◌, ◌||◌, IsTrue, nat_eq, ltb, leb, min, max, if◌then◌else◌, List, [], ◌∷◌, ◌++◌, length, map, get_or, Option, Some, None, option_map, slice_index, refl, sym, ap, ◌∙◌, subst, ⊎_elim, inl, inr, arith, lt-ltb, le-ltb, mul-le-mul_right}
+use Rattle.std.proofs.Common.{◌≡◌, ℕ, zero, suc, ◌+◌, ◌-◌, ◌*◌, ◌/◌, ◌%◌, ◌^◌, ◌<◌, ◌≤◌, Bool, true, false, not, ◌&&◌, ◌||◌, ltb, leb, min, max, if◌then◌else◌, List, [], ◌∷◌, ◌++◌, length, map, get_or, Some, None, option_map, slice_index, refl, sym, ap, ◌∙◌, subst, ⊎_elim, arith, le-ltb}
 use Rattle.std.specs.List.{Contains, range_with_len, flat_map}
 use Rattle.std.proofs.Math.Nat.{mod-one}
 use Rattle.std.proofs.lemmas.Bool.{not-true, false≢true, true≢false, and_parts, cases_lt, cases_Bool, lt-leb, and_left, and_right}
@@ -7,13 +7,13 @@ use Rattle.std.proofs.lemmas.List.Elements.{Contains-append_left, Contains-appen
 use Rattle.std.proofs.lemmas.List.FromFn.{length-range_with_len, get_or-range_with_len}
 use Rattle.vx_base.specs.Numbers.{field}
 use Rattle.vx_bits.specs.declared.saturation.Sat.{Sat}
-use Rattle.vx_packed.specs.Joined.{joined, some_below}
+use Rattle.vx_packed.specs.Joined.{some_below}
 use Rattle.vx_rows.specs.Families.{family_line, operands_of, unit_of}
 use Rattle.vx_rows.specs.declared.row.Class.TheVariants.{VectorArithmetic}
 use Rattle.vx_rows.specs.declared.family.Operand.{Operand}
 use Rattle.vx_rows.specs.declared.family.Operand.TheVariants.{Absent, Mask}
 use Rattle.vx_rows.specs.declared.family.Unit.{Unit as Execution}
-use Rattle.vx_rows.specs.declared.family.Unit.TheVariants.{Arithmetic, Multiply, Divide, Permute}
+use Rattle.vx_rows.specs.declared.family.Unit.TheVariants.{Permute}
 use Rattle.vx_rows.specs.declared.row.First.{First}
 use Rattle.vx_rows.specs.declared.row.First.TheVariants as first
 use Rattle.vx_rows.specs.declared.row.Vm.{Vm}
@@ -25,15 +25,15 @@ use Rattle.vx_vstate.specs.Vtype.{vlmax}
 use Rattle.vx_vector.specs.Arithmetic.{given, has_first, becomes, becomes_by, has_saturated, told, told_by}
 use Rattle.vx_vector.specs.Laws.{IsSound, IsPlaced, is_absent, AreSameAt, reading_others, value_after, per_word, element_after, made_word, word_saturates}
 use Rattle.vx_vector.specs.Lists.{Lists, joined_with, packed}
-use Rattle.vx_vector.specs.Numbers.{Numbers, plain, is_set}
+use Rattle.vx_vector.specs.Numbers.{plain, is_set}
 use Rattle.vx_vector.specs.Reading.{Reading, whole_registers, sew_of, destination_width, vs2_width, vs1_width, element_of, elements_in, elements_of, elements_by, second_by, number_by, count_of, is_active, is_unmasked_by, mask_bit, numbers_at, lists_of}
 use Rattle.vx_vector.specs.Rules.{Rule, rule_of}
 use Rattle.vx_vector.specs.Rules.Rule.{Each, Index, Permute as Permutes, Reduce, Pack, Put, Tell}
 use Rattle.vx_vector.specs.Words.{registers_of_operand, places_of_operand, places_of_element, place_of_element, vs1_operand, vs1_operand_by, mask_operand, elements_in as elements_in_word, places_of_sources, old_word, sources_in, source_words, made_by}
 use Rattle.vx_vector.proofs.Elements.{ElementLaws}
-use Rattle.vx_vector.proofs.Made.{IsFilled, filled, width-is, word-of}
+use Rattle.vx_vector.proofs.Made.{filled, width-is, word-of}
 use Rattle.vx_vector.proofs.Members.{member_first, member_of_range, member_of_flat_map}
-use Rattle.vx_vector.proofs.Suits.{needs_all, is_single, is_grouped, is_whole, fits, rule_fits, grouped_plain, single_plain, plain_count, vl-le}
+use Rattle.vx_vector.proofs.Suits.{needs_all, is_single, is_grouped, is_whole, fits, rule_fits, grouped_plain, plain_count, vl-le}
 
 -- ---- places at which the words are the same
 
@@ -173,9 +173,9 @@ module _ (r : Reading) (others : List ℕ) where
       (λ before. neither i x y (λ a b. absurd (omega arith)))
       (λ from. ⊎_elim
       (λ to.
-          let is = element-numbers i (same-among (places_of_element r) (elements_in_word r w) i r.words others h (among-elements w k l from to)) old in
-          let value = same is in
-          (λ j. given (is.active j) (value j)))
+      let is = element-numbers i (same-among (places_of_element r) (elements_in_word r w) i r.words others h (among-elements w k l from to)) old in
+      let value = same is in
+      (λ j. given (is.active j) (value j)))
       (λ past. neither i x y (λ a b. absurd (omega arith)))
       (cases_lt i (count_of r)))
       (cases_lt i r.at.vstart)
@@ -294,12 +294,12 @@ module _ (r : Reading) (others : List ℕ) where
       ⊎_elim
       (λ absent. let none = absent-none (operands_of r.family).destination absent in absurd (omega arith))
       (λ present.
-          let m = made_by r (rule_of r.family) w in
-          let f = filled (destination_width r) (width-is r s present) in
-          let sources = sources_in r (unit_of r.family) w in
-          let word = old-same (operands_of r.family).destination m present (same-right sources (old_word r (operands_of r.family).destination m) r.words others h) in
-          let old = old-element m (m * per_word r + k) (word-of (destination_width r) (per_word r) m k f l) word in
-          record { old = old; becomes = becomes-same e (rule_of r.family) w k s (rule_fits r.family) (same-left sources (old_word r (operands_of r.family).destination m) r.words others h) l old })
+      let m = made_by r (rule_of r.family) w in
+      let f = filled (destination_width r) (width-is r s present) in
+      let sources = sources_in r (unit_of r.family) w in
+      let word = old-same (operands_of r.family).destination m present (same-right sources (old_word r (operands_of r.family).destination m) r.words others h) in
+      let old = old-element m (m * per_word r + k) (word-of (destination_width r) (per_word r) m k f l) word in
+      record { old = old; becomes = becomes-same e (rule_of r.family) w k s (rule_fits r.family) (same-left sources (old_word r (operands_of r.family).destination m) r.words others h) l old })
       (cases_Bool (is_absent (operands_of r.family).destination))
 
   pub word-same : (e : ElementLaws) (w : ℕ) → IsSound r → AreSameAt (source_words r w) r.words others → made_word r (made_by r (rule_of r.family) w) ≡ made_word (reading_others r others) (made_by r (rule_of r.family) w)

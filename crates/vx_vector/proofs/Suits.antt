@@ -1,14 +1,14 @@
 -- Each family's rule fits its line: rules of elements' own numbers have units that need the words of those elements, and so
 -- on. It is computed for each family.
-use Rattle.std.proofs.Common.{◌≡◌, ℕ, ◌+◌, ◌*◌, ◌/◌, ◌<◌, ◌≤◌, Bool, true, false, not, ◌&&◌, ◌||◌, IsTrue, nat_eq, if◌then◌else◌, refl, sym, ap, ◌∙◌, arith}
+use Rattle.std.proofs.Common.{◌≡◌, ℕ, ◌≤◌, Bool, true, false, not, ◌&&◌, ◌||◌, nat_eq, if◌then◌else◌, refl, ap, arith}
 use Rattle.std.proofs.lemmas.Bool.{false≢true}
-use Rattle.vx_rows.specs.Families.{FamilyLine, family_line, operands_of}
+use Rattle.vx_rows.specs.Families.{family_line, operands_of}
 use Rattle.vx_rows.specs.declared.family.Family.{Family}
 use Rattle.vx_rows.specs.declared.family.Family.TheVariants.{Vadd}
 use Rattle.vx_rows.specs.declared.family.Operand.{Operand}
 use Rattle.vx_rows.specs.declared.family.Operand.TheVariants.{Absent, Single, Double, Half, Quarter, Eighth, Sixteen, Mask, Element, WideElement, Whole1, Whole2, Whole4, Whole8}
 use Rattle.vx_rows.specs.declared.family.Unit.{Unit as Execution}
-use Rattle.vx_rows.specs.declared.family.Unit.TheVariants.{Arithmetic, Multiply, Divide, Permute}
+use Rattle.vx_rows.specs.declared.family.Unit.TheVariants.{Permute}
 use Rattle.vx_rows.specs.declared.row.Class.TheVariants.{VectorArithmetic}
 use Rattle.vx_legal.specs.Legal.{begins_at_first}
 use Rattle.vx_vstate.specs.Vtype.{vlmax}

@@ -1,21 +1,18 @@
 -- An element that is written is one of the instruction's and of its destination's, and lies in a word that is made.
-use Rattle.std.proofs.Common.{◌≡◌, ℕ, zero, suc, ◌+◌, ◌-◌, ◌*◌, ◌/◌, ◌<◌, ◌≤◌, Bool, true, false, not, ◌&&◌, ◌||◌, IsTrue, nat_eq, ltb, leb, if◌then◌else◌, List, [], ◌∷◌, map, length, Option, Some, None, option_map, take, refl, sym, ap, ◌∙◌, subst, ⊎_elim, arith, lt-ltb, mul-le-mul_right}
+use Rattle.std.proofs.Common.{◌≡◌, ℕ, ◌+◌, ◌-◌, ◌<◌, ◌≤◌, Bool, true, false, not, ◌&&◌, ◌||◌, IsTrue, nat_eq, ltb, leb, if◌then◌else◌, List, [], ◌∷◌, map, length, Option, Some, None, option_map, take, refl, sym, ap, ◌∙◌, subst, ⊎_elim, arith, lt-ltb, mul-le-mul_right}
 use Rattle.std.specs.List.{Contains, range_with_len}
-use Rattle.std.proofs.lemmas.Bool.{and_parts, or_cases, true≢false, ltb-true, leb-true, eqb-true}
+use Rattle.std.proofs.lemmas.Bool.{and_parts, or_cases, ltb-true, leb-true, eqb-true}
 use Rattle.std.proofs.lemmas.List.{length-take}
 use Rattle.vx_bits.specs.declared.saturation.Sat.{Sat}
-use Rattle.vx_rows.specs.Families.{FamilyLine, family_line, operands_of}
+use Rattle.vx_rows.specs.Families.{family_line, operands_of}
 use Rattle.vx_rows.specs.declared.row.Class.TheVariants.{VectorArithmetic}
-use Rattle.vx_rows.specs.declared.family.Family.{Family}
-use Rattle.vx_rows.specs.declared.family.Operand.{Operand}
 use Rattle.vx_legal.specs.Legal.{begins_at_first}
 use Rattle.vx_vstate.specs.Registers.{element_word}
-use Rattle.vx_vstate.specs.Vtype.{vlmax}
 use Rattle.vx_vector.specs.Arithmetic.{given, has_first, becomes, becomes_by}
-use Rattle.vx_vector.specs.Laws.{IsSound, made_words}
+use Rattle.vx_vector.specs.Laws.{IsSound}
 use Rattle.vx_vector.specs.Lists.{chosen, packed}
 use Rattle.vx_vector.specs.Numbers.{plain}
-use Rattle.vx_vector.specs.Reading.{Reading, destination_width, vs2_width, whole_registers, elements_in, count_of, is_active, is_unmasked_by, mask_bit, numbers_at, lists_of, sew_of}
+use Rattle.vx_vector.specs.Reading.{Reading, destination_width, vs2_width, elements_in, count_of, is_active, is_unmasked_by, mask_bit, numbers_at, lists_of, sew_of}
 use Rattle.vx_vector.specs.Rules.{Rule, rule_of}
 use Rattle.vx_vector.specs.Rules.Rule.{Each, Index, Permute as Permutes, Reduce, Pack, Put, Tell}
 use Rattle.vx_vector.specs.Words.{words_holding, handled_by, made_by}

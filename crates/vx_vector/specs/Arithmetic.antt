@@ -1,12 +1,12 @@
 -- An instruction of vector arithmetic: the fold over its elements in rising order. RISC-V "V" 1.0, sections 5.3, 5.4, 10, 14
 -- and 16. Elements that take no part stay as they are.
-use Rattle.std.specs.Prelude.{ℕ, zero, suc, ◌+◌, ◌%◌, ◌^◌, Bool, false, ◌==◌, ◌&&◌, ◌||◌, nat_lt, List, fold, length, get_or, if◌then◌else◌, Option, Some, None, option_map}
+use Rattle.std.specs.Prelude.{ℕ, zero, suc, ◌%◌, ◌^◌, Bool, false, ◌==◌, ◌&&◌, nat_lt, List, length, get_or, if◌then◌else◌, Option, Some, None, option_map}
 use Rattle.vx_bits.specs.declared.saturation.Sat.{Sat}
 use Rattle.vx_packed.specs.Joined.{some_below}
 use Rattle.vx_vstate.specs.Registers.{with_element}
-use Rattle.vx_vector.specs.Lists.{Lists, joined_with, packed}
+use Rattle.vx_vector.specs.Lists.{joined_with, packed}
 use Rattle.vx_vector.specs.Numbers.{plain}
-use Rattle.vx_vector.specs.Reading.{Reading, sew_of, destination_width, vs1_width, element_of, count_of, is_active, numbers_at, lists_of}
+use Rattle.vx_vector.specs.Reading.{Reading, sew_of, destination_width, count_of, is_active, numbers_at, lists_of}
 use Rattle.vx_vector.specs.Rules.{Rule, rule_of}
 use Rattle.vx_vector.specs.Rules.Rule.{Each, Index, Permute, Reduce, Pack, Put, Tell}
 

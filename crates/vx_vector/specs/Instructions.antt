@@ -1,5 +1,5 @@
 -- What an instruction of vector arithmetic reads, and when it is legal, of its operation and its operands' places.
-use Rattle.std.specs.Prelude.{◌≡◌, ℕ, ◌^◌, ◌<◌, ◌+◌, ◌/◌, Bool, false, List, Option, Some, None}
+use Rattle.std.specs.Prelude.{◌≡◌, ℕ, ◌<◌, false, List, Option, Some, None}
 use Rattle.vx_legal.specs.Legal.{is_illegal}
 use Rattle.vx_legal.specs.declared.instr.Instr.{Instr}
 use Rattle.vx_rows.specs.Table.{class_of, shape_of}

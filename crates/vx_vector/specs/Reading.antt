@@ -1,6 +1,6 @@
 -- What an instruction of vector arithmetic reads: the operands of an element, which elements are active, and the operands as
 -- lists. RISC-V "V" 1.0, sections 5 and 10. All is read as it stood when the instruction began.
-use Rattle.std.specs.Prelude.{ℕ, ◌+◌, ◌*◌, ◌/◌, ◌%◌, ◌^◌, Bool, true, not, ◌==◌, ◌&&◌, ◌||◌, nat_lt, nat_le, List, [], map, if◌then◌else◌}
+use Rattle.std.specs.Prelude.{ℕ, ◌*◌, ◌/◌, ◌%◌, ◌^◌, Bool, true, not, ◌==◌, ◌&&◌, ◌||◌, nat_lt, nat_le, List, [], map, if◌then◌else◌}
 use Rattle.std.specs.List.{range_with_len}
 use Rattle.vx_base.specs.Numbers.{reduced}
 use Rattle.vx_rows.specs.Families.{operands_of}

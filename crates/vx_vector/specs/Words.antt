@@ -1,7 +1,7 @@
 -- Which words of the registers an instruction of vector arithmetic handles, one after another, and which it needs for each.
 -- This project's own: times and the order in which words are made speak of these. Words are told by their places in the
 -- list of all.
-use Rattle.std.specs.Prelude.{ℕ, ◌+◌, ◌-◌, ◌*◌, ◌/◌, min, max, Bool, not, nat_lt, List, [], ◌∷◌, ◌++◌, map, flat_map, if◌then◌else◌}
+use Rattle.std.specs.Prelude.{ℕ, ◌+◌, ◌-◌, ◌*◌, ◌/◌, min, max, nat_lt, List, [], ◌∷◌, ◌++◌, flat_map, if◌then◌else◌}
 use Rattle.std.specs.List.{range_with_len}
 use Rattle.vx_legal.specs.Groups.{eighths_of}
 use Rattle.vx_rows.specs.Families.{operands_of, unit_of}

@@ -1,5 +1,5 @@
 ghost use Rattle.std.specs.List.{Contains, list_any};
-ghost use Rattle.std.specs.Prelude.{◌≡◌, ℕ, ◌<◌, length, List, slice_index, Some};
+ghost use Rattle.std.specs.Prelude.{◌≡◌, ℕ, ◌<◌, ◌^◌, length, List, slice_index, Some};
 ghost use Rattle.vx_vector.specs.Arithmetic.{saturates, told, words_after};
 ghost use Rattle.vx_vector.specs.Laws.{
   AreSameAt,
@@ -12,12 +12,16 @@ ghost use Rattle.vx_vector.specs.Laws.{
 };
 ghost use Rattle.vx_vector.specs.Reading.{Reading};
 ghost use Rattle.vx_vector.specs.Words.{destination_words, source_words};
-ghost use Rattle.vx_vstate.specs.Registers.{word_at};
+ghost use Rattle.vx_rows.specs.declared.op.Op.{Op};
+ghost use Rattle.vx_vector.specs.Instructions.{IsLegal, reading_of};
+ghost use Rattle.vx_vector.specs.declared.places.Places.{Places};
+ghost use Rattle.vx_vstate.specs.Registers.{word_at, words_of_all};
+ghost use Rattle.vx_vstate.specs.declared.setting.Setting.{Setting};
 
 use vx_packed::joined_by_elements;
 use vx_vstate::{
-    elements_lie_in_their_group, other_elements_stay, other_indices_are_apart, set_element_is_read,
-    set_element_leaves_words,
+    elements_lie_in_their_group, groups_have_sizes, other_elements_stay, other_indices_are_apart,
+    set_element_is_read, set_element_leaves_words,
 };
 
 /// Law of words: after the instruction, word `w` of the destination is the one that is made of its elements, and the
@@ -32,6 +36,15 @@ pub fn words_are_made()
     set_element_leaves_words();
     other_elements_stay();
     other_indices_are_apart();
+}
+
+/// Law of legality: what a legal instruction of vector arithmetic reads, of the words of all registers, is sound, which the
+/// other laws ask for.
+pub fn legal_readings_are_sound()
+    ensures { (op : Op) (at : Setting) (places : Places) (words : List ℕ) (r : Reading) → IsLegal op at places → length words ≡ words_of_all at.vlen → ((place : ℕ) → slice_index words place < 2 ^ 64) → reading_of op at places words ≡ Some r → IsSound r }
+{
+    elements_lie_in_their_group();
+    groups_have_sizes();
 }
 
 /// Law of sources: the word that is made as word `w` is handled, whether it saturates, and what is put into an integer

@@ -9,5 +9,7 @@
 mod laws;
 mod places;
 
-pub use laws::{other_words_stay, words_are_made, words_need_their_sources};
+pub use laws::{
+    legal_readings_are_sound, other_words_stay, words_are_made, words_need_their_sources,
+};
 pub use places::{Places, Word};

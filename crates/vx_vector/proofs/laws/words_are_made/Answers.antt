@@ -1,9 +1,6 @@
 -- The laws of elements, for the fold over them.
-use Rattle.std.proofs.Common.{ℕ, List, ◌≢◌}
-use Rattle.vx_vector.specs.Reading.{Reading}
-use Rattle.vx_vector.proofs.Elements.{ElementLaws, after-count}
-use Rattle.vx_vector.proofs.Made.{words-made, saturation, outside-stays, unmade-stays, telling-stays}
-use Rattle.vx_vector.proofs.Sources.{word-same, saturation-same, what-is-told-same}
+use Rattle.vx_vector.proofs.Elements.{ElementLaws}
+use Rattle.vx_vector.proofs.Made.{words-made, saturation}
 use Rattle.vx_vector.proofs.laws.words_are_made.Goals as goal
 
 laws : goal.After-other_indices_are_apart → ElementLaws
