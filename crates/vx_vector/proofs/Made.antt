@@ -1,23 +1,24 @@
 -- The words that the fold leaves.
-use Rattle.std.proofs.Common.{◌≡◌, ◌≢◌, ℕ, zero, suc, ◌+◌, ◌*◌, ◌/◌, ◌%◌, ◌^◌, ◌<◌, ◌≤◌, Bool, true, false, ◌||◌, List, length, Option, Some, None, slice_index, refl, sym, ap, ◌∙◌, subst, ⊎_elim, arith, mod-eq_of_lt, mul-le-mul_right}
+use Rattle.std.proofs.Common.{IsTrue, if◌then◌else◌, ◌&&◌, ◌≡◌, ◌≢◌, ℕ, zero, suc, ◌+◌, ◌*◌, ◌/◌, ◌%◌, ◌^◌, ◌<◌, ◌≤◌, Bool, true, false, ◌||◌, List, length, Option, Some, None, slice_index, refl, sym, ap, ◌∙◌, subst, ⊎_elim, arith, mod-eq_of_lt, mul-le-mul_right}
 use Rattle.std.specs.List.{Contains, list_any}
-use Rattle.std.proofs.lemmas.Bool.{false≢true, cases_lt}
+use Rattle.std.proofs.lemmas.Bool.{cases_Bool, false≢true, cases_lt}
 use Rattle.std.proofs.lemmas.Nat.{div-mul-add, mod-mul-add, div-add-mod', mod_below}
 use Rattle.vx_base.specs.Numbers.{field}
 use Rattle.vx_bits.specs.declared.saturation.Sat.{Sat}
-use Rattle.vx_packed.specs.Joined.{lane}
+use Rattle.vx_packed.specs.Joined.{joined, some_below, lane}
 use Rattle.vx_rows.specs.Families.{operands_of}
+use Rattle.vx_legal.specs.Groups.{width_of}
 use Rattle.vx_rows.specs.declared.family.Operand.{Operand}
 use Rattle.vx_rows.specs.declared.family.Operand.TheVariants.{Absent}
 use Rattle.vx_vstate.specs.Registers.{words_of_register, place_of, word_at, element, element_word, is_element_width}
-use Rattle.vx_vector.specs.Arithmetic.{becomes, becomes_by, told, told_by, with_result, after_elements, words_after, has_saturated, saturates}
-use Rattle.vx_vector.specs.Laws.{IsSound, is_absent, value_after, per_word, element_after, made_word, word_saturates, made_words}
-use Rattle.vx_vector.specs.Reading.{Reading, destination_width, element_of, elements_in, count_of}
+use Rattle.vx_vector.specs.Arithmetic.{given, becomes, becomes_by, told, told_by, with_result, after_elements, words_after, has_saturated, saturates}
+use Rattle.vx_vector.specs.Laws.{IsByElement, word_before, IsSound, is_absent, value_after, per_word, element_after, made_word, word_saturates, made_words}
+use Rattle.vx_vector.specs.Reading.{is_active, sew_of, Reading, destination_width, element_of, count_in, count_of}
 use Rattle.vx_vector.specs.Rules.{Rule, rule_of}
 use Rattle.vx_vector.specs.Rules.Rule.{Each, Index, Permute as Permutes, Reduce, Pack, Put, Tell}
 use Rattle.vx_vector.specs.Words.{registers_of_operand, places_of_operand, destination_words}
 use Rattle.vx_vector.proofs.Elements.{ElementLaws, after-none, after-suc, after-above, after-below, none_from}
-use Rattle.vx_vector.proofs.Members.{member_of_range, any_from, any_one, some_from, some_one, same_test}
+use Rattle.vx_vector.proofs.Members.{some_alike, member_of_range, any_from, any_one, some_from, some_one, same_test}
 use Rattle.vx_vector.proofs.Written.{written}
 
 -- ---- elements as lanes of words
@@ -129,7 +130,7 @@ saturated (Some s) h = (s, refl)
 unwritten : (r : Reading) (i : ℕ) (s : Sat) → IsSound r → is_absent (operands_of r.family).destination ≡ true → becomes r i ≡ Some s → ⊥
 unwritten r i s h absent e = none (operands_of r.family).destination absent (written r i s h e).inside
   where
-    none : (o : Operand) → is_absent o ≡ true → i < elements_in r o → ⊥
+    none : (o : Operand) → is_absent o ≡ true → i < count_in r o → ⊥
     none Absent a l = absurd (omega arith)
     none other a l = absurd (false≢true a)
 
@@ -209,3 +210,41 @@ unchanged r h (suc n) = after-suc r n ∙ ap (λ b. with_result r n b (after_ele
 
 pub telling-stays : (r : Reading) (x : ℕ) → told r ≡ Some x → words_after r ≡ r.words
 telling-stays r x h = unchanged r (told-nothing (rule_of r.family) r x h) (count_of r)
+
+-- ---- elements of their own numbers
+
+value-given : (b : Bool) (x : Sat) (old : ℕ) → value_after (given b x) old ≡ (if b then x.value else old)
+value-given true x old = refl
+value-given false x old = refl
+
+saturated-given : (b : Bool) (x : Sat) → has_saturated (given b x) ≡ (b && x.sat)
+saturated-given true x = refl
+saturated-given false x = refl
+
+pub lane-is : (vlen : ℕ) (words : List ℕ) (register width w k : ℕ) → IsTrue (is_element_width width) → k < 64 / width → element vlen words register width (w * (64 / width) + k) ≡ lane width (word_at vlen words register w) k
+lane-is vlen words register width w k h l = element_lane vlen words register width (64 / width) w k (filled width h) l
+
+no-lanes : (o : Operand) (S : ℕ) → is_absent o ≡ true → 64 / width_of o S ≡ 0
+no-lanes Absent S h = refl
+no-lanes other S h = absurd (false≢true h)
+
+pub value-by-element : (alike : (width n : ℕ) (f g : ℕ → ℕ) → ((k : ℕ) → k < n → f k % 2 ^ width ≡ g k % 2 ^ width) → joined width n f ≡ joined width n g) (r : Reading) (g : ℕ → Sat) (w : ℕ) → IsSound r → IsByElement r g → made_word r w ≡ joined (destination_width r) (per_word r) (λ k. if is_active r (w * per_word r + k) then (g (w * per_word r + k)).value else lane (destination_width r) (word_before r w) k)
+value-by-element alike r g w h by =
+    alike (destination_width r) (per_word r) (λ k. element_after r (w * per_word r + k)) (λ k. if is_active r (w * per_word r + k) then (g (w * per_word r + k)).value else lane (destination_width r) (word_before r w) k)
+    (λ k l. ap (λ m. m % 2 ^ destination_width r) (one k l))
+  where
+    one : (k : ℕ) → k < per_word r → element_after r (w * per_word r + k) ≡ (if is_active r (w * per_word r + k) then (g (w * per_word r + k)).value else lane (destination_width r) (word_before r w) k)
+    one k l =
+        ⊎_elim
+        (λ absent. let none = no-lanes (operands_of r.family).destination (sew_of r) absent in absurd (omega arith))
+        (λ present.
+            let i = w * per_word r + k in
+            let f = filled (destination_width r) (width-is r h present) in
+            (λ j. value_after (by i j) (element_lane r.at.vlen r.words r.places.vd (destination_width r) (per_word r) w k f l j))
+            ∙ value-given (is_active r i) (g i) (lane (destination_width r) (word_before r w) k))
+        (cases_Bool (is_absent (operands_of r.family).destination))
+
+pub saturation-by-element : (r : Reading) (g : ℕ → Sat) (w : ℕ) → IsByElement r g → word_saturates r w ≡ some_below (per_word r) (λ k. is_active r (w * per_word r + k) && (g (w * per_word r + k)).sat)
+saturation-by-element r g w by =
+    some_alike (per_word r) (λ k. has_saturated (becomes r (w * per_word r + k))) (λ k. is_active r (w * per_word r + k) && (g (w * per_word r + k)).sat)
+    (λ k l. ap has_saturated (by (w * per_word r + k)) ∙ saturated-given (is_active r (w * per_word r + k)) (g (w * per_word r + k)))

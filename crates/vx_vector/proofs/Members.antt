@@ -1,5 +1,5 @@
 -- Members of lists, and tests of which one passes.
-use Rattle.std.proofs.Common.{◌≡◌, ℕ, zero, suc, ◌+◌, ◌-◌, ◌<◌, ◌≤◌, Bool, true, false, List, [], ◌∷◌, map, refl, sym, ap, ◌∙◌, subst, ⊎_elim, eq-or-lt_of_le, arith}
+use Rattle.std.proofs.Common.{◌||◌, ◌≡◌, ℕ, zero, suc, ◌+◌, ◌-◌, ◌<◌, ◌≤◌, Bool, true, false, List, [], ◌∷◌, map, refl, sym, ap, ◌∙◌, subst, ⊎_elim, eq-or-lt_of_le, arith}
 use Rattle.std.specs.List.{Contains, list_any, range_with_len, flat_map}
 use Rattle.std.proofs.lemmas.Bool.{or_cases, or_left, or_right, true≢false}
 use Rattle.std.proofs.lemmas.List.Elements.{Contains-append_left, Contains-append_right}
@@ -69,3 +69,8 @@ pub same_test : (a b : Bool) → (a ≡ true → b ≡ true) → (b ≡ true →
 same_test true b f g = sym (f refl)
 same_test false true f g = g refl
 same_test false false f g = refl
+
+pub some_alike : (n : ℕ) (f g : ℕ → Bool) → ((k : ℕ) → k < n → f k ≡ g k) → some_below n f ≡ some_below n g
+unfolding some_below
+some_alike zero f g h = refl
+some_alike (suc n) f g h = λ i. some_alike n f g (λ k l. h k (omega arith)) i || h n (omega arith) i

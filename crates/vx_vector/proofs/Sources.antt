@@ -26,13 +26,13 @@ use Rattle.vx_vector.specs.Arithmetic.{given, has_first, becomes, becomes_by, ha
 use Rattle.vx_vector.specs.Laws.{IsSound, IsPlaced, is_absent, AreSameAt, reading_others, value_after, per_word, element_after, made_word, word_saturates}
 use Rattle.vx_vector.specs.Lists.{Lists, joined_with, packed}
 use Rattle.vx_vector.specs.Numbers.{plain, is_set}
-use Rattle.vx_vector.specs.Reading.{Reading, whole_registers, sew_of, destination_width, vs2_width, vs1_width, element_of, elements_in, elements_of, elements_by, second_by, number_by, count_of, is_active, is_unmasked_by, mask_bit, numbers_at, lists_of}
+use Rattle.vx_vector.specs.Reading.{Reading, whole_registers, sew_of, destination_width, vs2_width, vs1_width, element_of, count_in, elements_of, elements_by, second_by, number_by, count_of, is_active, is_unmasked_by, mask_bit, numbers_at, lists_of}
 use Rattle.vx_vector.specs.Rules.{Rule, rule_of}
 use Rattle.vx_vector.specs.Rules.Rule.{Each, Index, Permute as Permutes, Reduce, Pack, Put, Tell}
-use Rattle.vx_vector.specs.Words.{registers_of_operand, places_of_operand, places_of_element, place_of_element, vs1_operand, vs1_operand_by, mask_operand, elements_in as elements_in_word, places_of_sources, old_word, sources_in, source_words, made_by}
+use Rattle.vx_vector.specs.Words.{registers_of_operand, places_of_operand, places_of_element, place_of_element, vs1_operand, vs1_operand_by, mask_operand, elements_in, places_of_sources, old_word, sources_in, source_words, made_by}
 use Rattle.vx_vector.proofs.Elements.{ElementLaws}
 use Rattle.vx_vector.proofs.Made.{filled, width-is, word-of}
-use Rattle.vx_vector.proofs.Members.{member_first, member_of_range, member_of_flat_map}
+use Rattle.vx_vector.proofs.Members.{some_alike, member_first, member_of_range, member_of_flat_map}
 use Rattle.vx_vector.proofs.Suits.{needs_all, is_single, is_grouped, is_whole, fits, rule_fits, grouped_plain, plain_count, vl-le}
 
 -- ---- places at which the words are the same
@@ -59,11 +59,6 @@ range-below n x c = let p = range-parts 0 n x c in omega (arith, p.1)
 map-same : {X : Type 0} (f g : ℕ → X) (xs : List ℕ) → ((x : ℕ) → Contains xs x → f x ≡ g x) → map f xs ≡ map g xs
 map-same f g [] h = refl
 map-same f g (y ∷ ys) h = λ i. h y (member_first y ys) i ∷ map-same f g ys (λ x c. h x (suc c.0, omega (arith, c.1), c.2)) i
-
-some-same : (n : ℕ) (f g : ℕ → Bool) → ((k : ℕ) → k < n → f k ≡ g k) → some_below n f ≡ some_below n g
-unfolding some_below
-some-same zero f g h = refl
-some-same (suc n) f g h = λ i. some-same n f g (λ k l. h k (omega arith)) i || h n (omega arith) i
 
 -- ---- one element
 
@@ -121,7 +116,7 @@ module _ (r : Reading) (others : List ℕ) where
 
   -- ---- units that need the words of the elements' own operands
 
-  own-sources : (u : Execution) (w : ℕ) → needs_all u ≡ false → sources_in r u w ≡ flat_map (places_of_element r) (elements_in_word r w)
+  own-sources : (u : Execution) (w : ℕ) → needs_all u ≡ false → sources_in r u w ≡ flat_map (places_of_element r) (elements_in r w)
   own-sources Permute w h = absurd (true≢false h)
   own-sources other w h = refl
 
@@ -154,7 +149,7 @@ module _ (r : Reading) (others : List ℕ) where
         active = active-same i m;
       }
 
-  among-elements : (w k : ℕ) → k < per_word r → r.at.vstart ≤ w * per_word r + k → w * per_word r + k < count_of r → Contains (elements_in_word r w) (w * per_word r + k)
+  among-elements : (w k : ℕ) → k < per_word r → r.at.vstart ≤ w * per_word r + k → w * per_word r + k < count_of r → Contains (elements_in r w) (w * per_word r + k)
   among-elements w k l from to =
       let next : (w + 1) * per_word r ≡ w * per_word r + per_word r = omega arith in
       member_of_range (max r.at.vstart (w * per_word r)) (min (count_of r) ((w + 1) * per_word r) - max r.at.vstart (w * per_word r)) (w * per_word r + k) (omega arith) (omega arith)
@@ -166,14 +161,14 @@ module _ (r : Reading) (others : List ℕ) where
       ∙ sym (ap (λ b. given b y) (inactive i out (is_unmasked_by r r.vm || mask_bit (reading_others r others) i)))
 
   -- what a rule of an element's own numbers gives
-  own-same : (w k : ℕ) (x y : Sat) → k < per_word r → (IsSameElement (w * per_word r + k) → x ≡ y) → AreSameAt (flat_map (places_of_element r) (elements_in_word r w)) r.words others → element_of r r.places.vd (destination_width r) (w * per_word r + k) ≡ element_of (reading_others r others) r.places.vd (destination_width r) (w * per_word r + k) → given (is_active r (w * per_word r + k)) x ≡ given (is_active (reading_others r others) (w * per_word r + k)) y
+  own-same : (w k : ℕ) (x y : Sat) → k < per_word r → (IsSameElement (w * per_word r + k) → x ≡ y) → AreSameAt (flat_map (places_of_element r) (elements_in r w)) r.words others → element_of r r.places.vd (destination_width r) (w * per_word r + k) ≡ element_of (reading_others r others) r.places.vd (destination_width r) (w * per_word r + k) → given (is_active r (w * per_word r + k)) x ≡ given (is_active (reading_others r others) (w * per_word r + k)) y
   own-same w k x y l same h old =
       let i = w * per_word r + k in
       ⊎_elim
       (λ before. neither i x y (λ a b. absurd (omega arith)))
       (λ from. ⊎_elim
       (λ to.
-      let is = element-numbers i (same-among (places_of_element r) (elements_in_word r w) i r.words others h (among-elements w k l from to)) old in
+      let is = element-numbers i (same-among (places_of_element r) (elements_in r w) i r.words others h (among-elements w k l from to)) old in
       let value = same is in
       (λ j. given (is.active j) (value j)))
       (λ past. neither i x y (λ a b. absurd (omega arith)))
@@ -193,8 +188,8 @@ module _ (r : Reading) (others : List ℕ) where
   elements-same : (o : Operand) (register : ℕ) → IsPlaced r o register → AreSameAt (places_of_operand r o register) r.words others → elements_of r o register ≡ elements_of (reading_others r others) o register
   elements-same Absent register p h = refl
   elements-same other register p h =
-      map-same (element_of r register (width_of other (sew_of r))) (element_of (reading_others r others) register (width_of other (sew_of r))) (range_with_len 0 (elements_in r other))
-      (λ i c. element-same r.at.vlen r.words others register (width_of other (sew_of r)) i (h (place_of r.at.vlen register (element_word (width_of other (sew_of r)) i)) (member-of-operand other register (element_word (width_of other (sew_of r)) i) refl (p.within i (range-below (elements_in r other) i c)))))
+      map-same (element_of r register (width_of other (sew_of r))) (element_of (reading_others r others) register (width_of other (sew_of r))) (range_with_len 0 (count_in r other))
+      (λ i c. element-same r.at.vlen r.words others register (width_of other (sew_of r)) i (h (place_of r.at.vlen register (element_word (width_of other (sew_of r)) i)) (member-of-operand other register (element_word (width_of other (sew_of r)) i) refl (p.within i (range-below (count_in r other) i c)))))
 
   first-same : (f : First) → IsPlaced r (vs1_operand_by r f) r.places.vs1 → AreSameAt (places_of_operand r (vs1_operand_by r f) r.places.vs1) r.words others → elements_by r f ≡ elements_by (reading_others r others) f
   first-same first.Vector p h = elements-same (operands_of r.family).vs1 r.places.vs1 p h
@@ -311,7 +306,7 @@ module _ (r : Reading) (others : List ℕ) where
   pub saturation-same : (e : ElementLaws) (w : ℕ) → IsSound r → AreSameAt (source_words r w) r.words others → word_saturates r (made_by r (rule_of r.family) w) ≡ word_saturates (reading_others r others) (made_by r (rule_of r.family) w)
   saturation-same e w s h =
       let m = made_by r (rule_of r.family) w in
-      some-same (per_word r) (λ k. has_saturated (becomes r (m * per_word r + k))) (λ k. has_saturated (becomes (reading_others r others) (m * per_word r + k)))
+      some_alike (per_word r) (λ k. has_saturated (becomes r (m * per_word r + k))) (λ k. has_saturated (becomes (reading_others r others) (m * per_word r + k)))
       (λ k l. ap has_saturated (lane-same e w k s h l).becomes)
 
   pub what-is-told-same : (e : ElementLaws) (w : ℕ) → IsSound r → AreSameAt (source_words r w) r.words others → told r ≡ told (reading_others r others)

@@ -13,7 +13,7 @@ use Rattle.vx_rows.specs.declared.row.Class.TheVariants.{VectorArithmetic}
 use Rattle.vx_legal.specs.Legal.{begins_at_first}
 use Rattle.vx_vstate.specs.Vtype.{vlmax}
 use Rattle.vx_vector.specs.Laws.{is_absent}
-use Rattle.vx_vector.specs.Reading.{Reading, whole_registers, elements_in, count_of}
+use Rattle.vx_vector.specs.Reading.{Reading, whole_registers, count_in, count_of}
 use Rattle.vx_vector.specs.Rules.{Rule, rule_of}
 use Rattle.vx_vector.specs.Rules.Rule.{Each, Index, Permute as Permutes, Reduce, Pack, Put, Tell}
 
@@ -71,7 +71,7 @@ grouped_plain Whole4 h = absurd (false≢true h)
 grouped_plain Whole8 h = absurd (false≢true h)
 grouped_plain other h = refl
 
-pub grouped_elements : (r : Reading) (o : Operand) → is_grouped o ≡ true → elements_in r o ≡ vlmax r.at.vlen r.at.vtype
+pub grouped_elements : (r : Reading) (o : Operand) → is_grouped o ≡ true → count_in r o ≡ vlmax r.at.vlen r.at.vtype
 grouped_elements r Absent h = absurd (false≢true h)
 grouped_elements r Element h = absurd (false≢true h)
 grouped_elements r WideElement h = absurd (false≢true h)
@@ -86,19 +86,19 @@ single_plain Element h = refl
 single_plain WideElement h = refl
 single_plain other h = absurd (false≢true h)
 
-pub single_elements : (r : Reading) (o : Operand) → is_single o ≡ true → elements_in r o ≡ 1
+pub single_elements : (r : Reading) (o : Operand) → is_single o ≡ true → count_in r o ≡ 1
 single_elements r Element h = refl
 single_elements r WideElement h = refl
 single_elements r other h = absurd (false≢true h)
 
 -- vl elements, where the destination isn't made of whole registers
 pub plain_count : (r : Reading) → whole_registers (operands_of r.family).destination ≡ 0 → count_of r ≡ r.at.vl
-plain_count r e = ap (λ n. if nat_eq n 0 then r.at.vl else elements_in r (operands_of r.family).destination) e
+plain_count r e = ap (λ n. if nat_eq n 0 then r.at.vl else count_in r (operands_of r.family).destination) e
 
-pub whole_count : (r : Reading) → is_whole (operands_of r.family).destination ≡ true → count_of r ≡ elements_in r (operands_of r.family).destination
+pub whole_count : (r : Reading) → is_whole (operands_of r.family).destination ≡ true → count_of r ≡ count_in r (operands_of r.family).destination
 whole_count r h = of (operands_of r.family).destination h
   where
-    of : (o : Operand) → is_whole o ≡ true → (if nat_eq (whole_registers o) 0 then r.at.vl else elements_in r o) ≡ elements_in r o
+    of : (o : Operand) → is_whole o ≡ true → (if nat_eq (whole_registers o) 0 then r.at.vl else count_in r o) ≡ count_in r o
     of Whole1 h = refl
     of Whole2 h = refl
     of Whole4 h = refl

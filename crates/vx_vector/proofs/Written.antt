@@ -12,7 +12,7 @@ use Rattle.vx_vector.specs.Arithmetic.{given, has_first, becomes, becomes_by}
 use Rattle.vx_vector.specs.Laws.{IsSound}
 use Rattle.vx_vector.specs.Lists.{chosen, packed}
 use Rattle.vx_vector.specs.Numbers.{plain}
-use Rattle.vx_vector.specs.Reading.{Reading, destination_width, vs2_width, elements_in, count_of, is_active, is_unmasked_by, mask_bit, numbers_at, lists_of, sew_of}
+use Rattle.vx_vector.specs.Reading.{Reading, destination_width, vs2_width, count_in, count_of, is_active, is_unmasked_by, mask_bit, numbers_at, lists_of, sew_of}
 use Rattle.vx_vector.specs.Rules.{Rule, rule_of}
 use Rattle.vx_vector.specs.Rules.Rule.{Each, Index, Permute as Permutes, Reduce, Pack, Put, Tell}
 use Rattle.vx_vector.specs.Words.{words_holding, handled_by, made_by}
@@ -86,20 +86,20 @@ at_first r xs i e h =
 
 pub record IsWritten (r : Reading) (rule : Rule) (i : ℕ) : Type 0 where
   pub among : i < count_of r
-  pub inside : i < elements_in r (operands_of r.family).destination
+  pub inside : i < count_in r (operands_of r.family).destination
   pub made : Contains (map (made_by r rule) (handled_by r rule)) (element_word (destination_width r) i)
 
-by_group : (r : Reading) (i : ℕ) → is_grouped (operands_of r.family).destination ≡ true → i < count_of r → i < elements_in r (operands_of r.family).destination
+by_group : (r : Reading) (i : ℕ) → is_grouped (operands_of r.family).destination ≡ true → i < count_of r → i < count_in r (operands_of r.family).destination
 by_group r i g h =
     let plain = plain_count r (grouped_plain (operands_of r.family).destination g) in
     let all = grouped_elements r (operands_of r.family).destination g in
     let vl = vl-le r in
     omega arith
 
-by_whole : (r : Reading) (i : ℕ) → is_whole (operands_of r.family).destination ≡ true → i < count_of r → i < elements_in r (operands_of r.family).destination
+by_whole : (r : Reading) (i : ℕ) → is_whole (operands_of r.family).destination ≡ true → i < count_of r → i < count_in r (operands_of r.family).destination
 by_whole r i g h = let all = whole_count r g in omega arith
 
-by_first : (r : Reading) (i : ℕ) → is_single (operands_of r.family).destination ≡ true → IsFirst r i → (i < count_of r) × (i < elements_in r (operands_of r.family).destination) × (count_of r ≡ r.at.vl)
+by_first : (r : Reading) (i : ℕ) → is_single (operands_of r.family).destination ≡ true → IsFirst r i → (i < count_of r) × (i < count_in r (operands_of r.family).destination) × (count_of r ≡ r.at.vl)
 by_first r i g h =
     let plain = plain_count r (single_plain (operands_of r.family).destination g) in
     let one = single_elements r (operands_of r.family).destination g in

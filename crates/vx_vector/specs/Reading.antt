@@ -61,11 +61,11 @@ module _ (r : Reading) where
   mask_bit i = is_set (element_of 0 1 i)
 
   -- how many elements an operand has: one, as many as whole registers hold, or VLMAX
-  abbrev pub elements_in : Operand → ℕ
-  elements_in Absent = 0
-  elements_in Element = 1
-  elements_in WideElement = 1
-  elements_in operand =
+  abbrev pub count_in : Operand → ℕ
+  count_in Absent = 0
+  count_in Element = 1
+  count_in WideElement = 1
+  count_in operand =
       let whole = whole_registers operand in
       if whole == 0 then vlmax r.at.vlen r.at.vtype else whole * r.at.vlen / width_of operand sew_of
 
@@ -73,7 +73,7 @@ module _ (r : Reading) where
   abbrev pub count_of : ℕ
   count_of =
       let destination = (operands_of r.family).destination in
-      if whole_registers destination == 0 then r.at.vl else elements_in destination
+      if whole_registers destination == 0 then r.at.vl else count_in destination
 
   -- the row's elements aren't masked: bit 25 is 1, or the row reads v0 as an operand
   abbrev pub is_unmasked_by : Vm → Bool
@@ -111,7 +111,7 @@ module _ (r : Reading) where
 
   -- the elements of an operand that begins at a register
   abbrev pub elements_of : Operand → (register : ℕ) → List ℕ
-  elements_of operand register = map (element_of register (width_of operand sew_of)) (range_with_len 0 (elements_in operand))
+  elements_of operand register = map (element_of register (width_of operand sew_of)) (range_with_len 0 (count_in operand))
 
   -- those in the place of vs1
   abbrev pub elements_by : First → List ℕ

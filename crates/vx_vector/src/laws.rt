@@ -1,21 +1,26 @@
 ghost use Rattle.std.specs.List.{Contains, list_any};
-ghost use Rattle.std.specs.Prelude.{◌≡◌, ℕ, ◌<◌, ◌^◌, length, List, slice_index, Some};
+ghost use Rattle.std.specs.Prelude.{◌≡◌, ℕ, ◌+◌, ◌*◌, ◌/◌, ◌<◌, ◌^◌, ◌&&◌, if◌then◌else◌, IsTrue, length, List, slice_index, Some};
 ghost use Rattle.vx_vector.specs.Arithmetic.{saturates, told, words_after};
 ghost use Rattle.vx_vector.specs.Laws.{
   AreSameAt,
+  IsByElement,
   IsSound,
   made_by_handling,
   made_word,
   made_words,
+  per_word,
   reading_others,
+  word_before,
   word_saturates,
 };
-ghost use Rattle.vx_vector.specs.Reading.{Reading};
+ghost use Rattle.vx_bits.specs.declared.saturation.Sat.{Sat};
+ghost use Rattle.vx_packed.specs.Joined.{joined, lane, some_below};
+ghost use Rattle.vx_vector.specs.Reading.{Reading, destination_width, is_active};
 ghost use Rattle.vx_vector.specs.Words.{destination_words, source_words};
 ghost use Rattle.vx_rows.specs.declared.op.Op.{Op};
 ghost use Rattle.vx_vector.specs.Instructions.{IsLegal, reading_of};
 ghost use Rattle.vx_vector.specs.declared.places.Places.{Places};
-ghost use Rattle.vx_vstate.specs.Registers.{word_at, words_of_all};
+ghost use Rattle.vx_vstate.specs.Registers.{element, is_element_width, word_at, words_of_all};
 ghost use Rattle.vx_vstate.specs.declared.setting.Setting.{Setting};
 
 use vx_packed::joined_by_elements;
@@ -45,6 +50,16 @@ pub fn legal_readings_are_sound()
 {
     elements_lie_in_their_group();
     groups_have_sizes();
+}
+
+/// Law of lanes: an element is a lane of its word; and where each active element becomes what `g` gives, and no other becomes
+/// anything, a word that is made has what `g` gives at its active lanes, and its old elements at the others.
+pub fn elements_are_lanes()
+    ensures lane { (vlen : ℕ) (words : List ℕ) (register width w k : ℕ) → IsTrue (is_element_width width) → k < 64 / width → element vlen words register width (w * (64 / width) + k) ≡ lane width (word_at vlen words register w) k }
+    ensures value { (r : Reading) (g : ℕ → Sat) (w : ℕ) → IsSound r → IsByElement r g → made_word r w ≡ joined (destination_width r) (per_word r) (λ k. if is_active r (w * per_word r + k) then (g (w * per_word r + k)).value else lane (destination_width r) (word_before r w) k) }
+    ensures sat { (r : Reading) (g : ℕ → Sat) (w : ℕ) → IsByElement r g → word_saturates r w ≡ some_below (per_word r) (λ k. is_active r (w * per_word r + k) && (g (w * per_word r + k)).sat) }
+{
+    joined_by_elements();
 }
 
 /// Law of sources: the word that is made as word `w` is handled, whether it saturates, and what is put into an integer
