@@ -3,5 +3,7 @@ pub mod Legality
 pub mod Made
 pub mod Members
 pub mod Sources
+pub mod Standard
+pub mod StandardLists
 pub mod Suits
 pub mod Written

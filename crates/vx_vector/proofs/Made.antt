@@ -238,10 +238,10 @@ value-by-element alike r g w h by =
         ⊎_elim
         (λ absent. let none = no-lanes (operands_of r.family).destination (sew_of r) absent in absurd (omega arith))
         (λ present.
-            let i = w * per_word r + k in
-            let f = filled (destination_width r) (width-is r h present) in
-            (λ j. value_after (by i j) (element_lane r.at.vlen r.words r.places.vd (destination_width r) (per_word r) w k f l j))
-            ∙ value-given (is_active r i) (g i) (lane (destination_width r) (word_before r w) k))
+        let i = w * per_word r + k in
+        let f = filled (destination_width r) (width-is r h present) in
+        (λ j. value_after (by i j) (element_lane r.at.vlen r.words r.places.vd (destination_width r) (per_word r) w k f l j))
+        ∙ value-given (is_active r i) (g i) (lane (destination_width r) (word_before r w) k))
         (cases_Bool (is_absent (operands_of r.family).destination))
 
 pub saturation-by-element : (r : Reading) (g : ℕ → Sat) (w : ℕ) → IsByElement r g → word_saturates r w ≡ some_below (per_word r) (λ k. is_active r (w * per_word r + k) && (g (w * per_word r + k)).sat)

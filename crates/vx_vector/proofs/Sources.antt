@@ -1,5 +1,5 @@
 -- A word that is made depends on the words that it needs alone.
-use Rattle.std.proofs.Common.{◌≡◌, ℕ, zero, suc, ◌+◌, ◌-◌, ◌*◌, ◌/◌, ◌%◌, ◌^◌, ◌<◌, ◌≤◌, Bool, true, false, not, ◌&&◌, ◌||◌, ltb, leb, min, max, if◌then◌else◌, List, [], ◌∷◌, ◌++◌, length, map, get_or, Some, None, option_map, slice_index, refl, sym, ap, ◌∙◌, subst, ⊎_elim, arith, le-ltb}
+use Rattle.std.proofs.Common.{◌≡◌, ℕ, suc, ◌+◌, ◌-◌, ◌*◌, ◌/◌, ◌%◌, ◌^◌, ◌<◌, ◌≤◌, Bool, true, false, not, ◌&&◌, ◌||◌, ltb, leb, min, max, if◌then◌else◌, List, [], ◌∷◌, ◌++◌, length, map, get_or, Some, None, option_map, slice_index, refl, sym, ap, ◌∙◌, subst, ⊎_elim, arith, le-ltb}
 use Rattle.std.specs.List.{Contains, range_with_len, flat_map}
 use Rattle.std.proofs.Math.Nat.{mod-one}
 use Rattle.std.proofs.lemmas.Bool.{not-true, false≢true, true≢false, and_parts, cases_lt, cases_Bool, lt-leb, and_left, and_right}
@@ -7,7 +7,6 @@ use Rattle.std.proofs.lemmas.List.Elements.{Contains-append_left, Contains-appen
 use Rattle.std.proofs.lemmas.List.FromFn.{length-range_with_len, get_or-range_with_len}
 use Rattle.vx_base.specs.Numbers.{field}
 use Rattle.vx_bits.specs.declared.saturation.Sat.{Sat}
-use Rattle.vx_packed.specs.Joined.{some_below}
 use Rattle.vx_rows.specs.Families.{family_line, operands_of, unit_of}
 use Rattle.vx_rows.specs.declared.row.Class.TheVariants.{VectorArithmetic}
 use Rattle.vx_rows.specs.declared.family.Operand.{Operand}

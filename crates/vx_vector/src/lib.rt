@@ -10,6 +10,7 @@ mod laws;
 mod places;
 
 pub use laws::{
-    elements_are_lanes, legal_readings_are_sound, other_words_stay, words_are_made, words_need_their_sources,
+    elements_are_lanes, legal_readings_are_sound, other_words_stay, words_are_made,
+    words_need_their_sources,
 };
 pub use places::{Places, Word};
