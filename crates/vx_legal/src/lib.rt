@@ -1,0 +1,6 @@
+//! temporary
+#![tactic(auto)]
+
+mod instr;
+
+pub use instr::Instr;

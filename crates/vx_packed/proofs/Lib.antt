@@ -1,0 +1,4 @@
+pub mod Joined
+pub mod Lanes
+pub mod OneByOne
+pub mod Masks

@@ -1,0 +1,9 @@
+pub mod Accesses
+pub mod Arithmetic
+pub mod Numbers
+pub mod Instructions
+pub mod Laws
+pub mod Lists
+pub mod Reading
+pub mod Rules
+pub mod Words
