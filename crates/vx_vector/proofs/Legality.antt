@@ -40,13 +40,13 @@ use Rattle.vx_rows.specs.declared.row.Second.TheVariants as second
 use Rattle.vx_rows.specs.declared.row.Shape.{Shape}
 use Rattle.vx_rows.specs.declared.row.Shape.TheVariants.{Vector}
 use Rattle.vx_rows.specs.declared.row.Vm.{Vm}
-use Rattle.vx_legal.specs.Groups.{width_of, group_of, first_source, second_source, destinations_as, sources_as}
-use Rattle.vx_legal.specs.Legal.{is_bad_group, is_illegal, begins_at_first, lacks_configuration, has_bad_group, has_long_segment, overwrites_mask, overlaps_badly, meets_source, begins_late, is_too_wide}
-use Rattle.vx_legal.specs.declared.instr.Instr.{Instr}
+use Rattle.vx_decode.specs.Groups.{width_of, group_of, first_source, second_source, destinations_as, sources_as}
+use Rattle.vx_decode.specs.Legal.{is_bad_group, is_illegal, begins_at_first, lacks_configuration, has_bad_group, has_long_segment, overwrites_mask, overlaps_badly, meets_source, begins_late, is_too_wide}
+use Rattle.vx_decode.specs.declared.instr.Instr.{Instr}
 use Rattle.vx_vstate.specs.Groups.{emul_eighths, registers_of_group, is_group_size}
 use Rattle.vx_vstate.specs.Registers.{words_of_register, words_of_all, element_word, is_byte_width, is_element_width}
 use Rattle.vx_vstate.specs.Vtype.{sew, vlmax, is_vtype}
-use Rattle.vx_vstate.specs.declared.setting.Setting.{Setting}
+use Rattle.vx_vstate.specs.State.{SettingView, IsSetting}
 use Rattle.vx_vector.specs.Instructions.{reading_as, reading_of, instr_at, IsLegal}
 use Rattle.vx_vector.specs.Laws.{IsSound, IsPlaced, is_absent}
 use Rattle.vx_vector.specs.Reading.{Reading, sew_of}
@@ -144,15 +144,15 @@ good register eew emul h =
 as_width : (width : ℕ) → is_byte_width width ≡ true → (is_element_width width) ≡ true
 as_width width h = by_width (λ n. is_element_width n ≡ true) width refl refl refl refl h
 
-some-words : (at : Setting) → 0 < words_of_register at.vlen
-some-words at = let h = at.vlen_in_range in grind (arith, nat_tests, h)
+some-words : (at : SettingView) → IsSetting at → 0 < words_of_register at.vlen
+some-words at k = let h = k.vlen_in_range in grind (arith, nat_tests, h)
 
-all-words : (at : Setting) → at.vlen ≡ 64 * words_of_register at.vlen
-all-words at = let h = at.vlen_in_range in grind (arith, nat_tests, h)
+all-words : (at : SettingView) → IsSetting at → at.vlen ≡ 64 * words_of_register at.vlen
+all-words at k = let h = k.vlen_in_range in grind (arith, nat_tests, h)
 
-whole-within : (at : Setting) (n S i : ℕ) → is_byte_width S ≡ true → i < n * at.vlen / S → element_word S i < n * words_of_register at.vlen
-whole-within at n S i h l =
-    let words = all-words at in
+whole-within : (at : SettingView) (n S i : ℕ) → IsSetting at → is_byte_width S ≡ true → i < n * at.vlen / S → element_word S i < n * words_of_register at.vlen
+whole-within at n S i k h l =
+    let words = all-words at k in
     let some : 0 < S = by_width (λ n. 0 < n) S (omega arith) (omega arith) (omega arith) (omega arith) h in
     let next : suc i ≤ n * at.vlen / S = l in
     let times = mul-le-mul_right S next in
@@ -161,53 +161,53 @@ whole-within at n S i h l =
     let below : i * S < n * words_of_register at.vlen * 64 = omega arith in
     div_below (i * S) 64 (n * words_of_register at.vlen) (omega arith) below
 
-pub placed : (L : GroupLaws) (r : Reading) (o : Operand) (register : ℕ) → register < 32 → list_any is_bad_group (group_of o r.at register) ≡ false → IsPlaced r o register
-placed L r Absent register b h = record { width = refl; room = omega arith; within = λ i l. absurd (omega arith) }
-placed L r Mask register b h = record {
+pub placed : (L : GroupLaws) (r : Reading) → IsSetting r.at → (o : Operand) (register : ℕ) → register < 32 → list_any is_bad_group (group_of o r.at register) ≡ false → IsPlaced r o register
+placed L r k Absent register b h = record { width = refl; room = omega arith; within = λ i l. absurd (omega arith) }
+placed L r k Mask register b h = record {
   width = refl;
   room = omega arith;
-  within = λ i l. let inside = L.mask r.at.vlen r.at.vtype i r.at.vlen_in_range l in omega arith;
+  within = λ i l. let inside = L.mask r.at.vlen r.at.vtype i k.vlen_in_range l in omega arith;
 }
-placed L r Element register b h =
-    let some = some-words r.at in
+placed L r k Element register b h =
+    let some = some-words r.at k in
     record {
-      width = as_width (sew_of r) (L.width r.at.vtype r.at.vtype_in_range);
+      width = as_width (sew_of r) (L.width r.at.vtype k.vtype_in_range);
       room = omega arith;
       within = λ i l. let none : i ≡ 0 = omega arith in let at_zero : element_word (sew_of r) i ≡ 0 = ap (element_word (sew_of r)) none ∙ omega arith in omega arith;
     }
-placed L r WideElement register b h =
-    let some = some-words r.at in
+placed L r k WideElement register b h =
+    let some = some-words r.at k in
     let is = good register (2 * sew_of r) 8 h in
     record {
-      width = as_width (2 * sew_of r) (bytes WideElement (sew_of r) (L.width r.at.vtype r.at.vtype_in_range) is.width);
+      width = as_width (2 * sew_of r) (bytes WideElement (sew_of r) (L.width r.at.vtype k.vtype_in_range) is.width);
       room = omega arith;
       within = λ i l. let none : i ≡ 0 = omega arith in let at_zero : element_word (2 * sew_of r) i ≡ 0 = ap (element_word (2 * sew_of r)) none ∙ omega arith in omega arith;
     }
-placed L r Whole1 register b h =
-    let S = L.width r.at.vtype r.at.vtype_in_range in
+placed L r k Whole1 register b h =
+    let S = L.width r.at.vtype k.vtype_in_range in
     let is = good register (sew_of r) 8 h in
-    record { width = as_width (sew_of r) S; room = room 1 register refl b is.aligned; within = λ i l. whole-within r.at 1 (sew_of r) i S l }
-placed L r Whole2 register b h =
-    let S = L.width r.at.vtype r.at.vtype_in_range in
+    record { width = as_width (sew_of r) S; room = room 1 register refl b is.aligned; within = λ i l. whole-within r.at 1 (sew_of r) i k S l }
+placed L r k Whole2 register b h =
+    let S = L.width r.at.vtype k.vtype_in_range in
     let is = good register (sew_of r) 16 h in
-    record { width = as_width (sew_of r) S; room = room 2 register refl b is.aligned; within = λ i l. whole-within r.at 2 (sew_of r) i S l }
-placed L r Whole4 register b h =
-    let S = L.width r.at.vtype r.at.vtype_in_range in
+    record { width = as_width (sew_of r) S; room = room 2 register refl b is.aligned; within = λ i l. whole-within r.at 2 (sew_of r) i k S l }
+placed L r k Whole4 register b h =
+    let S = L.width r.at.vtype k.vtype_in_range in
     let is = good register (sew_of r) 32 h in
-    record { width = as_width (sew_of r) S; room = room 4 register refl b is.aligned; within = λ i l. whole-within r.at 4 (sew_of r) i S l }
-placed L r Whole8 register b h =
-    let S = L.width r.at.vtype r.at.vtype_in_range in
+    record { width = as_width (sew_of r) S; room = room 4 register refl b is.aligned; within = λ i l. whole-within r.at 4 (sew_of r) i k S l }
+placed L r k Whole8 register b h =
+    let S = L.width r.at.vtype k.vtype_in_range in
     let is = good register (sew_of r) 64 h in
-    record { width = as_width (sew_of r) S; room = room 8 register refl b is.aligned; within = λ i l. whole-within r.at 8 (sew_of r) i S l }
-placed L r other register b h =
+    record { width = as_width (sew_of r) S; room = room 8 register refl b is.aligned; within = λ i l. whole-within r.at 8 (sew_of r) i k S l }
+placed L r k other register b h =
     let width = width_of other (sew_of r) in
     let emul = emul_eighths r.at.vtype width in
     let is = good register width emul h in
-    let byte = bytes other (sew_of r) (L.width r.at.vtype r.at.vtype_in_range) is.width in
+    let byte = bytes other (sew_of r) (L.width r.at.vtype k.vtype_in_range) is.width in
     record {
       width = as_width width byte;
       room = room (registers_of_group emul) register (L.registers r.at.vtype width byte is.least is.most) b is.aligned;
-      within = λ i l. L.group r.at.vlen r.at.vtype width i r.at.vlen_in_range byte is.least l;
+      within = λ i l. L.group r.at.vlen r.at.vtype width i k.vlen_in_range byte is.least l;
     }
 
 -- ---- rows
@@ -272,21 +272,21 @@ row-fits (Memory o) = memory-fits o
 placed-absent : (r : Reading) (register : ℕ) → register < 32 → IsPlaced r Absent register
 placed-absent r register b = record { width = refl; room = omega arith; within = λ i l. absurd (omega arith) }
 
-placed-first : (L : GroupLaws) (r : Reading) (f : First) (i : Instr) → i.rs1 ≡ r.places.vs1 → r.places.vs1 < 32 → list_any is_bad_group (first_source f (operands_of r.family).vs1 i r.at) ≡ false → IsPlaced r (vs1_operand_by r f) r.places.vs1
-placed-first L r first.Vector i e b h = placed L r (operands_of r.family).vs1 r.places.vs1 b (subst (λ register. list_any is_bad_group (group_of (operands_of r.family).vs1 r.at register) ≡ false) e h)
-placed-first L r other i e b h = placed-absent r r.places.vs1 b
+placed-first : (L : GroupLaws) (r : Reading) → IsSetting r.at → (f : First) (i : Instr) → i.rs1 ≡ r.places.vs1 → r.places.vs1 < 32 → list_any is_bad_group (first_source f (operands_of r.family).vs1 i r.at) ≡ false → IsPlaced r (vs1_operand_by r f) r.places.vs1
+placed-first L r k first.Vector i e b h = placed L r k (operands_of r.family).vs1 r.places.vs1 b (subst (λ register. list_any is_bad_group (group_of (operands_of r.family).vs1 r.at register) ≡ false) e h)
+placed-first L r k other i e b h = placed-absent r r.places.vs1 b
 
 absent-placed : (r : Reading) (o : Operand) (register : ℕ) → is_absent o ≡ true → register < 32 → IsPlaced r o register
 absent-placed r Absent register a b = placed-absent r register b
 absent-placed r other register a b = absurd (false≢true a)
 
-placed-second : (L : GroupLaws) (r : Reading) (s : Second) (i : Instr) → row_fits (VectorArithmetic r.family) (Vector r.first s r.vm) ≡ true → i.rs2 ≡ r.places.vs2 → r.places.vs2 < 32 → list_any is_bad_group (second_source s (operands_of r.family).vs2 i r.at) ≡ false → IsPlaced r (operands_of r.family).vs2 r.places.vs2
+placed-second : (L : GroupLaws) (r : Reading) → IsSetting r.at → (s : Second) (i : Instr) → row_fits (VectorArithmetic r.family) (Vector r.first s r.vm) ≡ true → i.rs2 ≡ r.places.vs2 → r.places.vs2 < 32 → list_any is_bad_group (second_source s (operands_of r.family).vs2 i r.at) ≡ false → IsPlaced r (operands_of r.family).vs2 r.places.vs2
 unfolding row_fits
-placed-second L r second.Vector i f e b h = placed L r (operands_of r.family).vs2 r.places.vs2 b (subst (λ register. list_any is_bad_group (group_of (operands_of r.family).vs2 r.at register) ≡ false) e h)
-placed-second L r second.Fixed i f e b h = absent-placed r (operands_of r.family).vs2 r.places.vs2 f b
+placed-second L r k second.Vector i f e b h = placed L r k (operands_of r.family).vs2 r.places.vs2 b (subst (λ register. list_any is_bad_group (group_of (operands_of r.family).vs2 r.at register) ≡ false) e h)
+placed-second L r k second.Fixed i f e b h = absent-placed r (operands_of r.family).vs2 r.places.vs2 f b
 
 -- the rules of legality that are needed, over a class and a shape
-record IsAccepted (class : Class) (shape : Shape) (i : Instr) (at : Setting) : Type 0 where
+record IsAccepted (class : Class) (shape : Shape) (i : Instr) (at : SettingView) : Type 0 where
   pub fits : row_fits class shape ≡ true
   pub destinations : list_any is_bad_group (destinations_as class i at) ≡ false
   pub sources : list_any is_bad_group (sources_as class shape i at) ≡ false
@@ -305,26 +305,27 @@ start-is n b h e =
     (λ f. absurd (true≢false (sym e ∙ f)))
     (and_cases (not (nat_eq n 0)) b h)
 
-sound-reading : (L : GroupLaws) (family : Family) (f : First) (s : Second) (v : Vm) (op : Op) (at : Setting) (places : Places) (words : List ℕ) → places.vd < 32 → places.vs1 < 32 → places.vs2 < 32 → IsAccepted (VectorArithmetic family) (Vector f s v) (instr_at op places) at → length words ≡ words_of_all at.vlen → ((place : ℕ) → slice_index words place < 2 ^ 64) → IsSound (record { family = family; first = f; vm = v; at = at; places = places; words = words })
-sound-reading L family f s v op at places words vd vs1 vs2 h count bits =
+sound-reading : (L : GroupLaws) → (family : Family) (f : First) (s : Second) (v : Vm) (op : Op) (at : SettingView) (places : Places) (words : List ℕ) → IsSetting at → places.vd < 32 → places.vs1 < 32 → places.vs2 < 32 → IsAccepted (VectorArithmetic family) (Vector f s v) (instr_at op places) at → length words ≡ words_of_all at.vlen → ((place : ℕ) → slice_index words place < 2 ^ 64) → IsSound (record { family = family; first = f; vm = v; at = at; places = places; words = words })
+sound-reading L family f s v op at places words k vd vs1 vs2 h count bits =
     let r : Reading = record { family = family; first = f; vm = v; at = at; places = places; words = words } in
     let i = instr_at op places in
     let parts = or_parts (list_any is_bad_group (second_source s (operands_of family).vs2 i at)) (list_any is_bad_group (first_source f (operands_of family).vs1 i at)) (sym (list_any-append is_bad_group (second_source s (operands_of family).vs2 i at) (first_source f (operands_of family).vs1 i at)) ∙ h.sources) in
     record {
+      setting = k;
       count = count;
       bits = bits;
-      destination = placed L r (operands_of family).destination places.vd vd h.destinations;
-      vs2 = placed-second L r s i h.fits refl vs2 parts.0;
-      vs1 = placed-first L r f i refl vs1 parts.1;
+      destination = placed L r k (operands_of family).destination places.vd vd h.destinations;
+      vs2 = placed-second L r k s i h.fits refl vs2 parts.0;
+      vs1 = placed-first L r k f i refl vs1 parts.1;
       start = start-is at.vstart (begins_at_first (VectorArithmetic family)) h.begins;
     }
 
-sound-as : (L : GroupLaws) (class : Class) (shape : Shape) (op : Op) (at : Setting) (places : Places) (words : List ℕ) (r : Reading) → places.vd < 32 → places.vs1 < 32 → places.vs2 < 32 → IsAccepted class shape (instr_at op places) at → length words ≡ words_of_all at.vlen → ((place : ℕ) → slice_index words place < 2 ^ 64) → reading_as class shape at places words ≡ Some r → IsSound r
-sound-as L (VectorArithmetic family) (Vector f s v) op at places words r vd vs1 vs2 h count bits e =
-    subst IsSound (some-is _ r e) (sound-reading L family f s v op at places words vd vs1 vs2 h count bits)
-sound-as L class shape op at places words r vd vs1 vs2 h count bits e = absurd (none-some r e)
+sound-as : (L : GroupLaws) (class : Class) (shape : Shape) (op : Op) (at : SettingView) (places : Places) (words : List ℕ) (r : Reading) → IsSetting at → places.vd < 32 → places.vs1 < 32 → places.vs2 < 32 → IsAccepted class shape (instr_at op places) at → length words ≡ words_of_all at.vlen → ((place : ℕ) → slice_index words place < 2 ^ 64) → reading_as class shape at places words ≡ Some r → IsSound r
+sound-as L (VectorArithmetic family) (Vector f s v) op at places words r k vd vs1 vs2 h count bits e =
+    subst IsSound (some-is _ r e) (sound-reading L family f s v op at places words k vd vs1 vs2 h count bits)
+sound-as L class shape op at places words r k vd vs1 vs2 h count bits e = absurd (none-some r e)
 
-accepted : (i : Instr) (at : Setting) → is_illegal i at ≡ false → row_fits (class_of i.op) (shape_of i.op) ≡ true → IsAccepted (class_of i.op) (shape_of i.op) i at
+accepted : (i : Instr) (at : SettingView) → is_illegal i at ≡ false → row_fits (class_of i.op) (shape_of i.op) ≡ true → IsAccepted (class_of i.op) (shape_of i.op) i at
 accepted i at h f =
     let a = or_parts (lacks_configuration i at || has_bad_group i at || has_long_segment i at || overwrites_mask i at || overlaps_badly i at || meets_source i at || begins_late i at) (is_too_wide i at) h in
     let b = or_parts (lacks_configuration i at || has_bad_group i at || has_long_segment i at || overwrites_mask i at || overlaps_badly i at || meets_source i at) (begins_late i at) a.0 in
@@ -336,6 +337,6 @@ accepted i at h f =
     let groups = or_parts (list_any is_bad_group (destinations_as (class_of i.op) i at)) (list_any is_bad_group (sources_as (class_of i.op) (shape_of i.op) i at)) k.1 in
     record { fits = f; destinations = groups.0; sources = groups.1; begins = b.1 }
 
-pub legal-sound : (L : GroupLaws) (op : Op) (at : Setting) (places : Places) (words : List ℕ) (r : Reading) → IsLegal op at places → length words ≡ words_of_all at.vlen → ((place : ℕ) → slice_index words place < 2 ^ 64) → reading_of op at places words ≡ Some r → IsSound r
+pub legal-sound : (L : GroupLaws) (op : Op) (at : SettingView) (places : Places) (words : List ℕ) (r : Reading) → IsLegal op at places → length words ≡ words_of_all at.vlen → ((place : ℕ) → slice_index words place < 2 ^ 64) → reading_of op at places words ≡ Some r → IsSound r
 legal-sound L op at places words r h count bits e =
-    sound-as L (class_of op) (shape_of op) op at places words r h.vd h.vs1 h.vs2 (accepted (instr_at op places) at h.legal (row-fits op)) count bits e
+    sound-as L (class_of op) (shape_of op) op at places words r h.setting h.vd h.vs1 h.vs2 (accepted (instr_at op places) at h.legal (row-fits op)) count bits e

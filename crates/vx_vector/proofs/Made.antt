@@ -7,7 +7,7 @@ use Rattle.vx_base.specs.Numbers.{field}
 use Rattle.vx_bits.specs.declared.saturation.Sat.{Sat}
 use Rattle.vx_packed.specs.Joined.{joined, some_below, lane}
 use Rattle.vx_rows.specs.Families.{operands_of}
-use Rattle.vx_legal.specs.Groups.{width_of}
+use Rattle.vx_decode.specs.Groups.{width_of}
 use Rattle.vx_rows.specs.declared.family.Operand.{Operand}
 use Rattle.vx_rows.specs.declared.family.Operand.TheVariants.{Absent}
 use Rattle.vx_vstate.specs.Registers.{words_of_register, place_of, word_at, element, element_word, is_element_width}

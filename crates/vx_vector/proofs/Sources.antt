@@ -17,9 +17,10 @@ use Rattle.vx_rows.specs.declared.row.First.{First}
 use Rattle.vx_rows.specs.declared.row.First.TheVariants as first
 use Rattle.vx_rows.specs.declared.row.Vm.{Vm}
 use Rattle.vx_rows.specs.declared.row.Vm.TheVariants as vm
-use Rattle.vx_legal.specs.Groups.{width_of}
-use Rattle.vx_legal.specs.Legal.{begins_at_first}
+use Rattle.vx_decode.specs.Groups.{width_of}
+use Rattle.vx_decode.specs.Legal.{begins_at_first}
 use Rattle.vx_vstate.specs.Registers.{words_of_register, place_of, word_at, element, element_word, element_bit}
+use Rattle.vx_vstate.specs.State.{IsSetting}
 use Rattle.vx_vstate.specs.Vtype.{vlmax}
 use Rattle.vx_vector.specs.Arithmetic.{given, has_first, becomes, becomes_by, has_saturated, told, told_by}
 use Rattle.vx_vector.specs.Laws.{IsSound, IsPlaced, is_absent, AreSameAt, reading_others, value_after, per_word, element_after, made_word, word_saturates}
@@ -194,12 +195,12 @@ module _ (r : Reading) (others : List ℕ) where
   first-same first.Vector p h = elements-same (operands_of r.family).vs1 r.places.vs1 p h
   first-same other p h = refl
 
-  mask-all : (e : ElementLaws) (b : Bool) (i : ℕ) → AreSameAt (places_of_operand r (if b then Absent else Mask) 0) r.words others → i < r.at.vl → b ≡ false → mask_bit r i ≡ mask_bit (reading_others r others) i
-  mask-all e true i h l f = absurd (true≢false f)
-  mask-all e false i h l f =
-      let vl = vl-le r in
+  mask-all : (e : ElementLaws) → IsSetting r.at → (b : Bool) (i : ℕ) → AreSameAt (places_of_operand r (if b then Absent else Mask) 0) r.words others → i < r.at.vl → b ≡ false → mask_bit r i ≡ mask_bit (reading_others r others) i
+  mask-all e k true i h l f = absurd (true≢false f)
+  mask-all e k false i h l f =
+      let vl = vl-le r k in
       let below : i < vlmax r.at.vlen r.at.vtype = omega arith in
-      let inside = e.mask r.at.vlen r.at.vtype i r.at.vlen_in_range below in
+      let inside = e.mask r.at.vlen r.at.vtype i k.vlen_in_range below in
       bit-same i (h (place_of r.at.vlen 0 (element_word 1 i)) (member-of-operand Mask 0 (element_word 1 i) refl (omega arith)))
 
   -- the operands as lists, and the activity of all elements up to vl
@@ -216,7 +217,7 @@ module _ (r : Reading) (others : List ℕ) where
       let a = elements-same (operands_of r.family).vs2 r.places.vs2 s.vs2 (same-left vs2 vs1 r.words others both) in
       let b = first-same r.first s.vs1 (same-right vs2 vs1 r.words others both) in
       let bits = same-right (vs2 ++ vs1) mask r.words others h in
-      let active = λ (i : ℕ) (l : i < r.at.vl). active-same i (mask-all e r.places.vm i bits l) in
+      let active = λ (i : ℕ) (l : i < r.at.vl). active-same i (mask-all e s.setting r.places.vm i bits l) in
       let all = map-same (is_active r) (is_active (reading_others r others)) (range_with_len 0 r.at.vl) (λ i c. active i (range-below r.at.vl i c)) in
       record {
         lists = λ j. record { sew = sew_of r; vl = r.at.vl; vs2 = a j; vs1 = b j; x = number_by r r.first; active = all j };

@@ -10,7 +10,8 @@ use Rattle.vx_rows.specs.declared.family.Operand.TheVariants.{Absent, Single, Do
 use Rattle.vx_rows.specs.declared.family.Unit.{Unit as Execution}
 use Rattle.vx_rows.specs.declared.family.Unit.TheVariants.{Permute}
 use Rattle.vx_rows.specs.declared.row.Class.TheVariants.{VectorArithmetic}
-use Rattle.vx_legal.specs.Legal.{begins_at_first}
+use Rattle.vx_decode.specs.Legal.{begins_at_first}
+use Rattle.vx_vstate.specs.State.{IsSetting}
 use Rattle.vx_vstate.specs.Vtype.{vlmax}
 use Rattle.vx_vector.specs.Laws.{is_absent}
 use Rattle.vx_vector.specs.Reading.{Reading, whole_registers, count_in, count_of}
@@ -110,5 +111,5 @@ most : (b : Bool) (n m : ℕ) → n ≤ (if b then 0 else m) → n ≤ m
 most true n m h = omega arith
 most false n m h = h
 
-pub vl-le : (r : Reading) → r.at.vl ≤ vlmax r.at.vlen r.at.vtype
-vl-le r = most _ r.at.vl (vlmax r.at.vlen r.at.vtype) r.at.vl_in_range
+pub vl-le : (r : Reading) → IsSetting r.at → r.at.vl ≤ vlmax r.at.vlen r.at.vtype
+vl-le r k = most _ r.at.vl (vlmax r.at.vlen r.at.vtype) k.vl_in_range

@@ -6,8 +6,9 @@ use Rattle.std.proofs.lemmas.List.{length-take}
 use Rattle.vx_bits.specs.declared.saturation.Sat.{Sat}
 use Rattle.vx_rows.specs.Families.{family_line, operands_of}
 use Rattle.vx_rows.specs.declared.row.Class.TheVariants.{VectorArithmetic}
-use Rattle.vx_legal.specs.Legal.{begins_at_first}
+use Rattle.vx_decode.specs.Legal.{begins_at_first}
 use Rattle.vx_vstate.specs.Registers.{element_word}
+use Rattle.vx_vstate.specs.State.{IsSetting}
 use Rattle.vx_vector.specs.Arithmetic.{given, has_first, becomes, becomes_by}
 use Rattle.vx_vector.specs.Laws.{IsSound}
 use Rattle.vx_vector.specs.Lists.{chosen, packed}
@@ -89,11 +90,11 @@ pub record IsWritten (r : Reading) (rule : Rule) (i : ℕ) : Type 0 where
   pub inside : i < count_in r (operands_of r.family).destination
   pub made : Contains (map (made_by r rule) (handled_by r rule)) (element_word (destination_width r) i)
 
-by_group : (r : Reading) (i : ℕ) → is_grouped (operands_of r.family).destination ≡ true → i < count_of r → i < count_in r (operands_of r.family).destination
-by_group r i g h =
+by_group : (r : Reading) → IsSetting r.at → (i : ℕ) → is_grouped (operands_of r.family).destination ≡ true → i < count_of r → i < count_in r (operands_of r.family).destination
+by_group r k i g h =
     let plain = plain_count r (grouped_plain (operands_of r.family).destination g) in
     let all = grouped_elements r (operands_of r.family).destination g in
-    let vl = vl-le r in
+    let vl = vl-le r k in
     omega arith
 
 by_whole : (r : Reading) (i : ℕ) → is_whole (operands_of r.family).destination ≡ true → i < count_of r → i < count_in r (operands_of r.family).destination
@@ -105,32 +106,32 @@ by_first r i g h =
     let one = single_elements r (operands_of r.family).destination g in
     (omega (arith, h.is, h.some), omega (arith, h.is), plain)
 
-written_by : (r : Reading) (rule : Rule) (i : ℕ) (s : Sat) → (IsTrue (begins_at_first (VectorArithmetic r.family)) → r.at.vstart ≡ 0) → fits rule (needs_all (family_line r.family).unit) (begins_at_first (VectorArithmetic r.family)) (operands_of r.family).destination ≡ true → becomes_by rule r i ≡ Some s → IsWritten r rule i
-written_by r (Each f) i s start h e =
+written_by : (r : Reading) → IsSetting r.at → (rule : Rule) (i : ℕ) (s : Sat) → (IsTrue (begins_at_first (VectorArithmetic r.family)) → r.at.vstart ≡ 0) → fits rule (needs_all (family_line r.family).unit) (begins_at_first (VectorArithmetic r.family)) (operands_of r.family).destination ≡ true → becomes_by rule r i ≡ Some s → IsWritten r rule i
+written_by r k (Each f) i s start h e =
     let active = active_among r i (given_true (is_active r i) (f (numbers_at r i)) s e) in
     let kind = (and_parts (not (needs_all (family_line r.family).unit)) (is_grouped (operands_of r.family).destination || is_whole (operands_of r.family).destination) h).1 in
     record {
       among = active.to;
-      inside = ⊎_elim (λ g. by_group r i g active.to) (λ g. by_whole r i g active.to) (or_cases (is_grouped (operands_of r.family).destination) (is_whole (operands_of r.family).destination) kind);
+      inside = ⊎_elim (λ g. by_group r k i g active.to) (λ g. by_whole r i g active.to) (or_cases (is_grouped (operands_of r.family).destination) (is_whole (operands_of r.family).destination) kind);
       made = member_of_map (made_by r (Each f)) (handled_by r (Each f)) (element_word (destination_width r) i) (holding r (destination_width r) i active);
     }
-written_by r (Index f) i s start h e =
+written_by r k (Index f) i s start h e =
     let active = active_among r i (given_true (is_active r i) (plain (f (sew_of r) i)) s e) in
     let kind = (and_parts (not (needs_all (family_line r.family).unit)) (is_grouped (operands_of r.family).destination) h).1 in
     record {
       among = active.to;
-      inside = by_group r i kind active.to;
+      inside = by_group r k i kind active.to;
       made = member_of_map (made_by r (Index f)) (handled_by r (Index f)) (element_word (destination_width r) i) (holding r (destination_width r) i active);
     }
-written_by r (Permutes f) i s start h e =
+written_by r k (Permutes f) i s start h e =
     let active = active_among r i (if_true (is_active r i) (option_map plain (f (lists_of r) i)) s e) in
     let kind = (and_parts (needs_all (family_line r.family).unit) (is_grouped (operands_of r.family).destination) h).1 in
     record {
       among = active.to;
-      inside = by_group r i kind active.to;
+      inside = by_group r k i kind active.to;
       made = member_of_map (made_by r (Permutes f)) (handled_by r (Permutes f)) (element_word (destination_width r) i) (holding r (destination_width r) i active);
     }
-written_by r (Reduce f) i s start h e =
+written_by r k (Reduce f) i s start h e =
     let first = first_is r i (given_true (has_first r i) _ s e) in
     let kind = (and_parts (needs_all (family_line r.family).unit) (is_single (operands_of r.family).destination) h).1 in
     let inside = by_first r i kind first in
@@ -140,7 +141,7 @@ written_by r (Reduce f) i s start h e =
       inside = inside.1;
       made = at_first r (map (made_by r (Reduce f)) (handled_by r (Reduce f))) i first.is (member_of_map (made_by r (Reduce f)) (handled_by r (Reduce f)) (element_word (vs2_width r) r.at.vstart) (holding r (vs2_width r) r.at.vstart some));
     }
-written_by r Pack i s start h e =
+written_by r k Pack i s start h e =
     let some = ltb-true i (length (packed (lists_of r))) (given_true (ltb i (length (packed (lists_of r)))) _ s e) in
     let parts = and_parts (needs_all (family_line r.family).unit && is_grouped (operands_of r.family).destination) (begins_at_first (VectorArithmetic r.family)) h in
     let kind = (and_parts (needs_all (family_line r.family).unit) (is_grouped (operands_of r.family).destination) parts.0).1 in
@@ -150,10 +151,10 @@ written_by r Pack i s start h e =
     let among : IsAmong r i = record { from = omega (arith, zero_start); to = omega arith } in
     record {
       among = among.to;
-      inside = by_group r i kind among.to;
+      inside = by_group r k i kind among.to;
       made = member_of_map (made_by r Pack) (handled_by r Pack) (element_word (destination_width r) i) (holding r (destination_width r) i among);
     }
-written_by r Put i s start h e =
+written_by r k Put i s start h e =
     let first = first_is r i (given_true (has_first r i) _ s e) in
     let kind = (and_parts (needs_all (family_line r.family).unit) (is_single (operands_of r.family).destination) h).1 in
     let inside = by_first r i kind first in
@@ -162,10 +163,10 @@ written_by r Put i s start h e =
       inside = inside.1;
       made = at_first r (map (made_by r Put) (handled_by r Put)) i first.is (member_of_map (made_by r Put) (handled_by r Put) 0 (subst (λ (b : Bool). Contains {X = ℕ} (if b then 0 ∷ [] else []) 0) (sym (lt-ltb r.at.vstart r.at.vl first.some)) (member_first 0 [])));
     }
-written_by r (Tell f) i s start h e = absurd (none_some s e)
+written_by r k (Tell f) i s start h e = absurd (none_some s e)
   where
     none_some : (s : Sat) → None ≡ Some s → ⊥
     none_some s e = cc
 
 pub written : (r : Reading) (i : ℕ) (s : Sat) → IsSound r → becomes r i ≡ Some s → IsWritten r (rule_of r.family) i
-written r i s h e = written_by r (rule_of r.family) i s h.start (rule_fits r.family) e
+written r i s h e = written_by r h.setting (rule_of r.family) i s h.start (rule_fits r.family) e

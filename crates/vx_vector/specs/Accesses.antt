@@ -6,10 +6,10 @@ use Rattle.vx_rows.specs.declared.row.Addressing.{Addressing}
 use Rattle.vx_rows.specs.declared.row.Addressing.TheVariants.{Unit, FaultOnlyFirst, Whole, MaskBits, Strided, Unordered, Ordered}
 use Rattle.vx_rows.specs.declared.row.Eew.{Eew}
 use Rattle.vx_vstate.specs.Groups.{registers_of_group}
-use Rattle.vx_legal.specs.Groups.{bits_of_eew, moved}
-use Rattle.vx_legal.specs.declared.instr.Instr.{Instr}
+use Rattle.vx_decode.specs.Groups.{bits_of_eew, moved}
+use Rattle.vx_decode.specs.declared.instr.Instr.{Instr}
 use Rattle.vx_vstate.specs.Registers.{element}
-use Rattle.vx_vstate.specs.declared.setting.Setting.{Setting}
+use Rattle.vx_vstate.specs.State.{SettingView}
 use Rattle.vx_vector.specs.Numbers.{is_set}
 
 -- an access: of an element and its field, so many bytes from an address on, which stand in the registers from a byte on that
@@ -28,7 +28,7 @@ pub record Movement : Type 0 where
   -- the width that it encodes
   pub encoded : Eew
   pub i : Instr
-  pub at : Setting
+  pub at : SettingView
   -- the numbers in rs1 and in rs2
   pub base : ℕ
   pub stride : ℕ

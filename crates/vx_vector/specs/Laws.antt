@@ -4,13 +4,14 @@ use Rattle.std.specs.Prelude.{◌≡◌, ℕ, ◌+◌, ◌*◌, ◌/◌, ◌^◌
 use Rattle.std.specs.List.{Contains}
 use Rattle.vx_bits.specs.declared.saturation.Sat.{Sat}
 use Rattle.vx_packed.specs.Joined.{joined, some_below}
-use Rattle.vx_legal.specs.Groups.{width_of}
-use Rattle.vx_legal.specs.Legal.{begins_at_first}
+use Rattle.vx_decode.specs.Groups.{width_of}
+use Rattle.vx_decode.specs.Legal.{begins_at_first}
 use Rattle.vx_rows.specs.Families.{operands_of}
 use Rattle.vx_rows.specs.declared.family.Operand.{Operand}
 use Rattle.vx_rows.specs.declared.family.Operand.TheVariants.{Absent}
 use Rattle.vx_rows.specs.declared.row.Class.TheVariants.{VectorArithmetic}
 use Rattle.vx_vstate.specs.Registers.{word_at, words_of_register, words_of_all, element_word, is_element_width}
+use Rattle.vx_vstate.specs.State.{IsSetting}
 use Rattle.vx_vector.specs.Arithmetic.{given, becomes, has_saturated}
 use Rattle.vx_vector.specs.Reading.{Reading, sew_of, destination_width, is_active, element_of, count_in}
 use Rattle.vx_vector.specs.Rules.{rule_of}
@@ -31,6 +32,7 @@ pub record IsPlaced (r : Reading) (operand : Operand) (register : ℕ) : Type 0 
 -- the words are those of all registers, of 64 bits each; the operands lie in them; and a row that can't go on from an element
 -- behind the first doesn't
 pub record IsSound (r : Reading) : Type 0 where
+  pub setting : IsSetting r.at
   pub count : length r.words ≡ words_of_all r.at.vlen
   pub bits : (place : ℕ) → slice_index r.words place < 2 ^ 64
   pub destination : IsPlaced r (operands_of r.family).destination r.places.vd

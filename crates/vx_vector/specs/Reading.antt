@@ -11,10 +11,10 @@ use Rattle.vx_rows.specs.declared.row.First.{First}
 use Rattle.vx_rows.specs.declared.row.First.TheVariants as first
 use Rattle.vx_rows.specs.declared.row.Vm.{Vm}
 use Rattle.vx_rows.specs.declared.row.Vm.TheVariants as vm
-use Rattle.vx_legal.specs.Groups.{width_of}
+use Rattle.vx_decode.specs.Groups.{width_of}
 use Rattle.vx_vstate.specs.Registers.{element}
 use Rattle.vx_vstate.specs.Vtype.{sew, vlmax}
-use Rattle.vx_vstate.specs.declared.setting.Setting.{Setting}
+use Rattle.vx_vstate.specs.State.{SettingView}
 use Rattle.vx_vector.specs.Lists.{Lists}
 use Rattle.vx_vector.specs.Numbers.{Numbers, is_set}
 use Rattle.vx_vector.specs.declared.places.Places.{Places}
@@ -26,7 +26,7 @@ pub record Reading : Type 0 where
   pub first : First
   -- what its row says of bit 25
   pub vm : Vm
-  pub at : Setting
+  pub at : SettingView
   pub places : Places
   pub words : List ℕ
 

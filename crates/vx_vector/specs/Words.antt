@@ -3,7 +3,7 @@
 -- list of all.
 use Rattle.std.specs.Prelude.{ℕ, ◌+◌, ◌-◌, ◌*◌, ◌/◌, min, max, nat_lt, List, [], ◌∷◌, ◌++◌, flat_map, if◌then◌else◌}
 use Rattle.std.specs.List.{range_with_len}
-use Rattle.vx_legal.specs.Groups.{eighths_of}
+use Rattle.vx_decode.specs.Groups.{eighths_of}
 use Rattle.vx_rows.specs.Families.{operands_of, unit_of}
 use Rattle.vx_rows.specs.declared.family.Operand.{Operand}
 use Rattle.vx_rows.specs.declared.family.Operand.TheVariants.{Absent, Element, Mask}

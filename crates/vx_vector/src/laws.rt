@@ -21,7 +21,7 @@ ghost use Rattle.vx_rows.specs.declared.op.Op.{Op};
 ghost use Rattle.vx_vector.specs.Instructions.{IsLegal, reading_of};
 ghost use Rattle.vx_vector.specs.declared.places.Places.{Places};
 ghost use Rattle.vx_vstate.specs.Registers.{element, is_element_width, word_at, words_of_all};
-ghost use Rattle.vx_vstate.specs.declared.setting.Setting.{Setting};
+ghost use Rattle.vx_vstate.specs.State.{SettingView};
 
 use vx_packed::joined_by_elements;
 use vx_vstate::{
@@ -46,7 +46,7 @@ pub fn words_are_made()
 /// Law of legality: what a legal instruction of vector arithmetic reads, of the words of all registers, is sound, which the
 /// other laws ask for.
 pub fn legal_readings_are_sound()
-    ensures { (op : Op) (at : Setting) (places : Places) (words : List ℕ) (r : Reading) → IsLegal op at places → length words ≡ words_of_all at.vlen → ((place : ℕ) → slice_index words place < 2 ^ 64) → reading_of op at places words ≡ Some r → IsSound r }
+    ensures { (op : Op) (at : SettingView) (places : Places) (words : List ℕ) (r : Reading) → IsLegal op at places → length words ≡ words_of_all at.vlen → ((place : ℕ) → slice_index words place < 2 ^ 64) → reading_of op at places words ≡ Some r → IsSound r }
 {
     elements_lie_in_their_group();
     groups_have_sizes();

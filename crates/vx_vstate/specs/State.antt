@@ -51,6 +51,14 @@ pub record SettingView : Type 0 where
   pub vxrm : ℕ
   pub scalar : ℕ
 
+-- what is true of every setting
+pub record IsSetting (s : SettingView) : Type 0 where
+  pub vlen_in_range : IsTrue (is_register_length s.vlen)
+  pub vtype_in_range : IsTrue (is_vtype s.vtype)
+  pub vl_in_range : s.vl ≤ most_elements s.vlen s.vtype
+  pub vstart_in_range : s.vstart < s.vlen
+  pub vxrm_in_range : s.vxrm < 4
+
 abbrev pub setting_of : VectorState → (scalar : ℕ) → SettingView
 setting_of s scalar = record { vlen = s.vlen; vl = s.vl; vtype = s.vtype; vstart = s.vstart; vxrm = s.vxrm; scalar = scalar }
 

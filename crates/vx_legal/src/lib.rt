@@ -1,6 +1,0 @@
-//! temporary
-#![tactic(auto)]
-
-mod instr;
-
-pub use instr::Instr;
