@@ -1,5 +1,5 @@
 -- What each operation does is what its class says.
-use Rattle.std.proofs.Common.{◌≡◌, ℕ, Bool, not, ◌==◌, nat_lt, bit_and, bit_or, bit_xor, refl}
+use Rattle.std.proofs.Common.{ℕ, not, ◌==◌, nat_lt, bit_and, bit_or, bit_xor, refl}
 use Rattle.vx_bits.specs.Arithmetic.{sum_at, difference_at, product_at, signed_high_at, unsigned_high_at, mixed_high_at, signed_quotient_at, unsigned_quotient_at, signed_remainder_at, unsigned_remainder_at, shifted_left_at, shifted_right_at, sign_shifted_right_at}
 use Rattle.vx_rows.specs.Table.{class_of}
 use Rattle.vx_rows.specs.declared.op.Op.{Op}

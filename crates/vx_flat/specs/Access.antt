@@ -11,7 +11,7 @@ use Rattle.vx_flat.specs.Scalar.Work.{Acts, Loads, Stores, Asks, Breaks, Control
 abbrev pub access_address : Instr → (x : List ℕ) → ℕ
 access_address i x = sum_at 64 (slice_index x i.rs1) (reduced 64 i.imm)
 
--- how many bytes a load or a store moves
+-- how many bytes a load or a store moves; no other operation asks for a number
 abbrev pub width_of : Work → ℕ
 width_of (Loads width value) = width
 width_of (Stores width) = width

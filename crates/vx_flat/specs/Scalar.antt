@@ -1,5 +1,6 @@
--- What the operations of RV64IM do: RISC-V Unprivileged ISA 20191213, chapters 2 and 5 (RV32I and RV64I) and 7 (M). In what follows a and b are the numbers in rs1 and rs2, and n is the immediate, each a number of 64 bits. The
--- rows whose names end in w compute at 32 bits, and sign-extend what they compute.
+-- What the operations of RV64IM do: RISC-V Unprivileged ISA 20191213, chapters 2 and 5 (RV32I and RV64I) and 7 (M). In
+-- what follows a and b are the numbers in rs1 and rs2, and n is the immediate, each a number of 64 bits. The operations
+-- whose names end in w compute at 32 bits, and sign-extend what they compute.
 use Rattle.std.specs.Prelude.{ℕ, ◌+◌, ◌-◌, ◌*◌, ◌%◌, ◌^◌, Bool, not, ◌==◌, nat_lt, int_lt, bit_and, bit_or, bit_xor, List, if◌then◌else◌, slice_index}
 use Rattle.vx_base.specs.Numbers.{reduced, signed}
 use Rattle.vx_bits.specs.Arithmetic.{sum_at, difference_at, product_at, signed_high_at, unsigned_high_at, mixed_high_at, signed_quotient_at, unsigned_quotient_at, signed_remainder_at, unsigned_remainder_at, shifted_left_at, shifted_right_at, sign_shifted_right_at}
@@ -40,15 +41,21 @@ even n = n - n % 2
 abbrev pub jump : (target : ℕ) → Effect → Effect
 jump target done = if target % 4 == 0 then done else Misaligned target
 
--- what an operation does: an effect on registers and the pc, a load or a store of so many bytes, of which a load makes a
--- value out of the number that they are, or something else
+-- what an operation does
 pub data Work : Type 0 where
+  -- it has this effect, and touches no memory
   Acts : (effect : Effect) → Work
+  -- it reads so many bytes, and puts into rd a value of the number that they are
   Loads : (width : ℕ) → (value : ℕ → ℕ) → Work
+  -- it writes so many of the low bytes of b
   Stores : (width : ℕ) → Work
+  -- it asks for a service
   Asks : Work
+  -- it stops at a breakpoint
   Breaks : Work
+  -- it reads and writes a control register, which isn't executed yet
   Controls : Work
+  -- it configures the vector unit or works on vector registers, which isn't executed yet
   Vectors : Work
 
 -- the effect of a row that puts a value into rd
@@ -169,7 +176,7 @@ work (Mask op) pc a b n = Vectors
 work (Perm op) pc a b n = Vectors
 work (Memory op) pc a b n = Vectors
 
--- the effect of an operation that touches no memory; any other has none here but to go on
+-- the effect of an operation that touches no memory; the step of any other doesn't go by one
 abbrev pub effect_of : Work → (pc : ℕ) → Effect
 effect_of (Acts effect) pc = effect
 effect_of (Loads width value) pc = Next (next_pc pc)
