@@ -3,11 +3,14 @@ use std::test::Fail;
 use vx_language::{PieceKind, Span, Token, TokenKind};
 
 fn token(kind: TokenKind, start: u64, end: u64) -> Token {
-    Token { kind, span: Span { start, end } }
+    Token {
+        kind,
+        span: Span { start, end },
+    }
 }
 
-fn bad_byte(start: u64) -> Option<LexFault> {
-    Some(LexFault::BadByte(Span { start, end: start + 1 }))
+fn bad_byte(start: u64, end: u64) -> Option<LexFault> {
+    Some(LexFault::BadByte(Span { start, end }))
 }
 
 fn bad_token(start: u64, end: u64) -> Option<LexFault> {
@@ -40,15 +43,21 @@ fn gives_tokens(rt: HostRuntime) -> Result<(), Fail> {
 
 #[test]
 fn tells_the_first_fault(rt: HostRuntime) -> Result<(), Fail> {
-    assert_eq!(rt; tokens(rt.alloc(), b"a\r\n").err(), bad_byte(1));
-    assert_eq!(rt; tokens(rt.alloc(), b"# \x7f @").err(), bad_byte(2));
+    assert_eq!(rt; tokens(rt.alloc(), b"a\r\n").err(), bad_byte(1, 2));
+    assert_eq!(rt; tokens(rt.alloc(), b"# \x7f @").err(), bad_byte(2, 3));
     assert_eq!(rt; tokens(rt.alloc(), b"@ \x00").err(), bad_token(0, 1));
-    assert_eq!(rt; tokens(rt.alloc(), b"\"a\x1fb\" \"").err(), bad_byte(2));
+    assert_eq!(rt; tokens(rt.alloc(), b"\"a\x1fb\" \"").err(), bad_byte(2, 3));
     assert_eq!(rt; tokens(rt.alloc(), b"\"a\\\x1f\"").err(), bad_token(0, 5));
     assert_eq!(rt; tokens(rt.alloc(), b"5 - 5").err(), bad_token(2, 3));
-    assert_eq!(rt; tokens(rt.alloc(), b"0018446744073709551616").err(), bad_token(0, 22));
+    assert_eq!(rt;
+        tokens(rt.alloc(), b"0018446744073709551616").err(),
+        bad_token(0, 22)
+    );
     assert_eq!(rt; tokens(rt.alloc(), b"\"a\\t\" x").err(), bad_token(0, 5));
-    assert_eq!(rt; tokens(rt.alloc(), b".ascii \"a # b\n\"").err(), bad_token(7, 13));
+    assert_eq!(rt;
+        tokens(rt.alloc(), b".ascii \"a # b\n\"").err(),
+        bad_token(7, 13)
+    );
     Ok(())
 }
 
@@ -57,9 +66,18 @@ fn reads_pieces(rt: HostRuntime) -> Result<(), Fail> {
     let piece = piece_at(b"ab\\c", 2).map(|piece| (piece.kind, piece.span.end));
     assert_eq!(rt; piece, Some((PieceKind::Stray, 3)));
     assert!(rt; piece_at(b"ab", 2).is_none());
-    assert_eq!(rt; first_bad_byte(b"ab\tc\x80"), Some(Span { start: 4, end: 5 }));
-    assert_eq!(rt; number_of(b"18446744073709551615"), Some(18_446_744_073_709_551_615));
-    assert_eq!(rt; number_of(b"-0x8000000000000000"), Some(-9_223_372_036_854_775_808));
+    assert_eq!(rt;
+        first_bad_byte(b"ab\tc\x80"),
+        Some(Span { start: 4, end: 5 })
+    );
+    assert_eq!(rt;
+        number_of(b"18446744073709551615"),
+        Some(18_446_744_073_709_551_615)
+    );
+    assert_eq!(rt;
+        number_of(b"-0x8000000000000000"),
+        Some(-9_223_372_036_854_775_808)
+    );
     assert_eq!(rt; number_of(b"-9223372036854775809"), None);
     let mut out = vec![in rt.alloc(); b'>']?;
     push_text(&mut out, b"a\\n\\\\\\\"\" b")?;
