@@ -17,7 +17,7 @@ ghost use Rattle.vx_decode.specs.Groups.{
   width_of,
 };
 ghost use Rattle.vx_rows.specs.Families.{operands_of};
-ghost use Rattle.vx_rows.specs.Table.{class_of};
+ghost use Rattle.vx_rows.specs.Table.{class_of, shape_of};
 ghost use Rattle.vx_rows.specs.declared.row.Class.TheVariants as class;
 ghost use Rattle.vx_vstate.specs.Groups.{emul_eighths, registers_of_group};
 ghost use Rattle.vx_vstate.specs.Views.{view_of};
@@ -128,8 +128,9 @@ pub(crate) fn store_groups(addressing: Addressing, width: Eew, i: &Instr, at: &S
 
 /// The groups of a row of vector arithmetic with these operands.
 #[inline(always)]
-pub(crate) fn arithmetic_groups(family: Family, operands: Operands, i: &Instr, at: &Setting) -> Groups
+pub(crate) fn arithmetic_groups(family: Family, operands: Operands, shape: Shape, i: &Instr, at: &Setting) -> Groups
     requires class { class_of i.now.op ≡ class.VectorArithmetic family }
+    requires shape { shape_of i.now.op ≡ shape }
     requires destination { operands.destination ≡ (operands_of family).destination }
     requires vs2 { operands.vs2 ≡ (operands_of family).vs2 }
     requires vs1 { operands.vs1 ≡ (operands_of family).vs1 }
@@ -137,7 +138,7 @@ pub(crate) fn arithmetic_groups(family: Family, operands: Operands, i: &Instr, a
 {
     let class = Class::VectorArithmetic(family);
     let destination = operand_group(operands.destination, at, i.rd);
-    match i.op.shape() {
+    match shape {
         Shape::Vector(first, second, _) => Groups {
             class,
             destination,

@@ -27,14 +27,14 @@ ghost use Rattle.vx_decode.specs.Legal.{
   some_group,
 };
 ghost use Rattle.vx_rows.specs.Families.{operands_of};
-ghost use Rattle.vx_rows.specs.Table.{class_of};
+ghost use Rattle.vx_rows.specs.Table.{class_of, shape_of};
 ghost use Rattle.vx_rows.specs.declared.family.Operand.TheVariants as operand;
 ghost use Rattle.vx_rows.specs.declared.row.Class.TheVariants as class;
 ghost use Rattle.vx_vstate.specs.Views.{view_of};
 
 use crate::group::{Group, Groups, arithmetic_groups, load_groups, mask_at, store_groups};
 use crate::instr::Instr;
-use vx_rows::{Addressing, Class, Family, Operand, Operands};
+use vx_rows::{Addressing, Class, Eew, Family, Operand, Operands, Shape};
 use vx_vstate::Setting;
 
 /// Whether a vector instruction may be executed under a setting; false exactly where it raises illegal instruction by one
@@ -49,19 +49,13 @@ pub fn legal(i: &Instr, at: &Setting) -> bool
         Class::VectorArithmetic(family) => {
             let operands = family.operands();
             if are_single(operands) {
-                arithmetic(family, SINGLE, i, at)
+                single_arithmetic(family, i.op.shape(), i, at)
             } else {
-                arithmetic(family, operands, i, at)
+                arithmetic(family, operands, i.op.shape(), i, at)
             }
         }
-        Class::VectorLoad(addressing, width) => {
-            let groups = load_groups(addressing, width, i, at);
-            obeys_all(i, at, &groups)
-        }
-        Class::VectorStore(addressing, width) => {
-            let groups = store_groups(addressing, width, i, at);
-            obeys_all(i, at, &groups)
-        }
+        Class::VectorLoad(addressing, width) => load(addressing, width, i, at),
+        Class::VectorStore(addressing, width) => store(addressing, width, i, at),
         class => !(at.is_ill() && !needs_none(class)),
     }
 }
@@ -93,16 +87,49 @@ fn is_single(o: Operand) -> bool
     }
 }
 
-/// Whether a row of vector arithmetic with these operands is legal.
-#[inline(always)]
-fn arithmetic(family: Family, operands: Operands, i: &Instr, at: &Setting) -> bool
+/// Whether a row of vector arithmetic with those operands is legal: the common case, in code of its own.
+#[inline(never)]
+fn single_arithmetic(family: Family, shape: Shape, i: &Instr, at: &Setting) -> bool
     requires class { class_of i.now.op ≡ class.VectorArithmetic family }
-    requires destination { operands.destination ≡ (operands_of family).destination }
-    requires vs2 { operands.vs2 ≡ (operands_of family).vs2 }
-    requires vs1 { operands.vs1 ≡ (operands_of family).vs1 }
+    requires shape { shape_of i.now.op ≡ shape }
+    requires destination { (operands_of family).destination ≡ operand.Single }
+    requires vs2 { (operands_of family).vs2 ≡ operand.Single }
+    requires vs1 { (operands_of family).vs1 ≡ operand.Single }
     ensures { result ≡ not (is_illegal i.now (view_of at.now)) }
 {
-    let groups = arithmetic_groups(family, operands, i, at);
+    let groups = arithmetic_groups(family, SINGLE, shape, i, at);
+    obeys_all(i, at, &groups)
+}
+
+/// Whether a row of vector arithmetic with these operands is legal.
+#[inline(never)]
+fn arithmetic(family: Family, operands: Operands, shape: Shape, i: &Instr, at: &Setting) -> bool
+    requires class { class_of i.now.op ≡ class.VectorArithmetic family }
+    requires shape { shape_of i.now.op ≡ shape }
+    requires operands { operands ≡ operands_of family }
+    ensures { result ≡ not (is_illegal i.now (view_of at.now)) }
+{
+    let groups = arithmetic_groups(family, operands, shape, i, at);
+    obeys_all(i, at, &groups)
+}
+
+/// Whether a vector load is legal.
+#[inline(never)]
+fn load(addressing: Addressing, width: Eew, i: &Instr, at: &Setting) -> bool
+    requires { class_of i.now.op ≡ class.VectorLoad addressing width }
+    ensures { result ≡ not (is_illegal i.now (view_of at.now)) }
+{
+    let groups = load_groups(addressing, width, i, at);
+    obeys_all(i, at, &groups)
+}
+
+/// Whether a vector store is legal.
+#[inline(never)]
+fn store(addressing: Addressing, width: Eew, i: &Instr, at: &Setting) -> bool
+    requires { class_of i.now.op ≡ class.VectorStore addressing width }
+    ensures { result ≡ not (is_illegal i.now (view_of at.now)) }
+{
+    let groups = store_groups(addressing, width, i, at);
     obeys_all(i, at, &groups)
 }
 
