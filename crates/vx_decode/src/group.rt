@@ -1,10 +1,9 @@
 //! The groups of registers that an instruction's vector operands are.
 
-ghost use Rattle.std.specs.Prelude.{◌≡◌, ℕ, ◌≤◌, ◌++◌, option_to_list, IsTrue};
+ghost use Rattle.std.specs.Prelude.{◌≡◌, ◌≤◌, option_to_list};
 ghost use Rattle.vx_decode.specs.Groups.{
   AreGroupsOf,
   bits_of_eew,
-  destinations_as,
   eighths_of,
   extent,
   first_source,
@@ -15,15 +14,16 @@ ghost use Rattle.vx_decode.specs.Groups.{
   meet,
   moved,
   second_source,
-  sources_as,
   width_of,
 };
+ghost use Rattle.vx_rows.specs.Families.{operands_of};
+ghost use Rattle.vx_rows.specs.Table.{class_of, shape_of};
 ghost use Rattle.vx_rows.specs.declared.row.Class.TheVariants as class;
 ghost use Rattle.vx_vstate.specs.Groups.{emul_eighths, registers_of_group};
 ghost use Rattle.vx_vstate.specs.Views.{view_of};
 
 use crate::instr::Instr;
-use vx_rows::{Addressing, Class, Eew, Family, First, Operand, Second, Shape};
+use vx_rows::{Addressing, Class, Eew, Family, First, Operand, Operands, Second, Shape};
 use vx_vstate::Setting;
 
 /// A vector operand as a group of registers (RISC-V "V" 1.0, sections 3.4.2 and 5.2).
@@ -57,11 +57,12 @@ pub(crate) struct Groups {
 impl Group {
     /// The registers of one field.
     #[inline(always)]
-    pub(crate) fn registers(self) -> u64
+    pub(crate) fn registers(self) -> u32
         ensures is { result ≡ registers_of_group self.emul_eighths }
         ensures positive { 1 ≤ result }
+        ensures in_range { result ≤ 0x1fffffff }
     {
-        (u64::from(self.emul_eighths) / 8).max(1)
+        (self.emul_eighths / 8).max(1)
     }
 
     /// The registers of all fields.
@@ -70,7 +71,7 @@ impl Group {
         ensures is { result ≡ extent self }
         ensures in_range { result ≤ 0x1fffffffffffffff }
     {
-        u64::from(self.fields) * self.registers()
+        u64::from(self.fields) * u64::from(self.registers())
     }
 
     /// Whether two groups have a register in common.
@@ -97,53 +98,45 @@ pub(crate) fn mask_at(register: u8) -> Group
     }
 }
 
-/// The groups of an instruction.
+/// The groups of a vector load.
 #[inline(always)]
-pub(crate) fn groups_of(i: &Instr, at: &Setting) -> Groups
+pub(crate) fn load_groups(addressing: Addressing, width: Eew, i: &Instr, at: &Setting) -> Groups
+    requires { class_of i.now.op ≡ class.VectorLoad addressing width }
     ensures { AreGroupsOf result i.now (view_of at.now) }
 {
-    groups_as(i.op.class(), i.op.shape(), i, at)
-}
-
-/// The groups of an instruction of a class and a shape.
-#[inline(always)]
-fn groups_as(class: Class, shape: Shape, i: &Instr, at: &Setting) -> Groups
-    ensures class { result.class ≡ class }
-    ensures destination { option_to_list result.destination ≡ destinations_as class i.now (view_of at.now) }
-    ensures sources { option_to_list result.second ++ option_to_list result.first ≡ sources_as class shape i.now (view_of at.now) }
-{
-    match class {
-        Class::VectorArithmetic(family) => arithmetic(family, shape, i, at),
-        Class::VectorLoad(addressing, width) => Groups {
-            class,
-            destination: Some(moved(addressing, width, i, at)),
-            second: None,
-            first: indices(addressing, width, i, at),
-        },
-        Class::VectorStore(addressing, width) => Groups {
-            class,
-            destination: None,
-            second: Some(moved(addressing, width, i, at)),
-            first: indices(addressing, width, i, at),
-        },
-        _ => Groups {
-            class,
-            destination: None,
-            second: None,
-            first: None,
-        },
+    Groups {
+        class: Class::VectorLoad(addressing, width),
+        destination: Some(moved(addressing, width, i, at)),
+        second: None,
+        first: indices(addressing, width, i, at),
     }
 }
 
-/// The groups of a row of vector arithmetic.
+/// The groups of a vector store.
 #[inline(always)]
-fn arithmetic(family: Family, shape: Shape, i: &Instr, at: &Setting) -> Groups
-    ensures class { result.class ≡ class.VectorArithmetic family }
-    ensures destination { option_to_list result.destination ≡ destinations_as (class.VectorArithmetic family) i.now (view_of at.now) }
-    ensures sources { option_to_list result.second ++ option_to_list result.first ≡ sources_as (class.VectorArithmetic family) shape i.now (view_of at.now) }
+pub(crate) fn store_groups(addressing: Addressing, width: Eew, i: &Instr, at: &Setting) -> Groups
+    requires { class_of i.now.op ≡ class.VectorStore addressing width }
+    ensures { AreGroupsOf result i.now (view_of at.now) }
+{
+    Groups {
+        class: Class::VectorStore(addressing, width),
+        destination: None,
+        second: Some(moved(addressing, width, i, at)),
+        first: indices(addressing, width, i, at),
+    }
+}
+
+/// The groups of a row of vector arithmetic with these operands.
+#[inline(always)]
+pub(crate) fn arithmetic_groups(family: Family, operands: Operands, shape: Shape, i: &Instr, at: &Setting) -> Groups
+    requires class { class_of i.now.op ≡ class.VectorArithmetic family }
+    requires shape { shape_of i.now.op ≡ shape }
+    requires destination { operands.destination ≡ (operands_of family).destination }
+    requires vs2 { operands.vs2 ≡ (operands_of family).vs2 }
+    requires vs1 { operands.vs1 ≡ (operands_of family).vs1 }
+    ensures { AreGroupsOf result i.now (view_of at.now) }
 {
     let class = Class::VectorArithmetic(family);
-    let operands = family.operands();
     let destination = operand_group(operands.destination, at, i.rd);
     match shape {
         Shape::Vector(first, second, _) => Groups {
@@ -231,6 +224,7 @@ fn eighths_of(operand: Operand, at: &Setting) -> u32
         Operand::Whole2 => 16,
         Operand::Whole4 => 32,
         Operand::Whole8 => 64,
+        Operand::Single => at.lmul_eighths(),
         _ => emul_eighths(at, width_of(operand, at.sew())),
     }
 }

@@ -1,7 +1,10 @@
-//! Instruction words and what they mean: `decode` reads a word's row and operands, and `encode` writes them.
+//! Instruction words and what they mean: `decode` reads a word's row and operands, `encode` writes them, and `legal` tells
+//! whether a vector instruction may be executed under a setting.
 //!
-//! It stands on `vx_rows`. To the crates above it gives `Instr` and, as a definition and as `decode`, the instruction
-//! that a word means, `encode`, its inverse both ways, and the law that the instruction of a word is valid.
+//! It stands on `vx_rows` and, for the setting, on `vx_vstate`. To the crates above it gives `Instr` and, as a definition
+//! and as `decode`, the instruction that a word means; `encode`, its inverse both ways, and the law that the instruction of
+//! a word is valid; and, as definitions, the groups of registers that a vector instruction's operands are and the rules by
+//! which it is illegal, with `legal`, which is exact.
 #![tactic(auto)]
 
 mod decoder;

@@ -1,6 +1,6 @@
 //! Whether a vector instruction is legal: each rule by itself, and all of them.
 
-ghost use Rattle.std.specs.Prelude.{◌≡◌, ℕ, not, ◌&&◌, ◌||◌, ◌++◌, option_to_list};
+ghost use Rattle.std.specs.Prelude.{◌≡◌, ℕ, true, not, ◌&&◌, ◌||◌, ◌++◌, option_to_list};
 ghost use Rattle.vx_decode.specs.Groups.{AreGroupsOf, mask_at, meet};
 ghost use Rattle.vx_decode.specs.Legal.{
   begins_at_first,
@@ -26,12 +26,15 @@ ghost use Rattle.vx_decode.specs.Legal.{
   reduces,
   some_group,
 };
+ghost use Rattle.vx_rows.specs.Families.{operands_of};
+ghost use Rattle.vx_rows.specs.Table.{class_of, shape_of};
+ghost use Rattle.vx_rows.specs.declared.family.Operand.TheVariants as operand;
 ghost use Rattle.vx_rows.specs.declared.row.Class.TheVariants as class;
 ghost use Rattle.vx_vstate.specs.Views.{view_of};
 
-use crate::group::{Group, Groups, groups_of, mask_at};
+use crate::group::{Group, Groups, arithmetic_groups, load_groups, mask_at, store_groups};
 use crate::instr::Instr;
-use vx_rows::{Addressing, Class, Family};
+use vx_rows::{Addressing, Class, Eew, Family, Operand, Operands, Shape};
 use vx_vstate::Setting;
 
 /// Whether a vector instruction may be executed under a setting; false exactly where it raises illegal instruction by one
@@ -42,15 +45,108 @@ use vx_vstate::Setting;
 pub fn legal(i: &Instr, at: &Setting) -> bool
     ensures { result ≡ not (is_illegal i.now (view_of at.now)) }
 {
-    let groups = groups_of(i, at);
-    !(lacks_configuration(i, at, &groups)
-        || has_bad_group(i, at, &groups)
-        || has_long_segment(i, at, &groups)
-        || overwrites_mask(i, at, &groups)
-        || overlaps_badly(i, at, &groups)
-        || meets_source(i, at, &groups)
-        || begins_late(i, at, &groups)
-        || is_too_wide(i, at, &groups))
+    match i.op.class() {
+        Class::VectorArithmetic(family) => {
+            let operands = family.operands();
+            if are_single(operands) {
+                single_arithmetic(family, i.op.shape(), i, at)
+            } else {
+                arithmetic(family, operands, i.op.shape(), i, at)
+            }
+        }
+        Class::VectorLoad(addressing, width) => load(addressing, width, i, at),
+        Class::VectorStore(addressing, width) => store(addressing, width, i, at),
+        class => !(at.is_ill() && !needs_none(class)),
+    }
+}
+
+/// The operands of most rows, for which the rules come to little once they are told apart.
+const SINGLE: Operands = Operands {
+    destination: Operand::Single,
+    vs2: Operand::Single,
+    vs1: Operand::Single,
+};
+
+/// Whether operands are those.
+#[inline(always)]
+fn are_single(operands: Operands) -> bool
+    ensures destination { result ≡ true → operands.destination ≡ operand.Single }
+    ensures vs2 { result ≡ true → operands.vs2 ≡ operand.Single }
+    ensures vs1 { result ≡ true → operands.vs1 ≡ operand.Single }
+{
+    is_single(operands.destination) && is_single(operands.vs2) && is_single(operands.vs1)
+}
+
+#[inline(always)]
+fn is_single(o: Operand) -> bool
+    ensures { result ≡ true → o ≡ operand.Single }
+{
+    match o {
+        Operand::Single => true,
+        _ => false,
+    }
+}
+
+/// Whether a row of vector arithmetic with those operands is legal: the common case, in code of its own.
+#[inline(never)]
+fn single_arithmetic(family: Family, shape: Shape, i: &Instr, at: &Setting) -> bool
+    requires class { class_of i.now.op ≡ class.VectorArithmetic family }
+    requires shape { shape_of i.now.op ≡ shape }
+    requires destination { (operands_of family).destination ≡ operand.Single }
+    requires vs2 { (operands_of family).vs2 ≡ operand.Single }
+    requires vs1 { (operands_of family).vs1 ≡ operand.Single }
+    ensures { result ≡ not (is_illegal i.now (view_of at.now)) }
+{
+    let groups = arithmetic_groups(family, SINGLE, shape, i, at);
+    obeys_all(i, at, &groups)
+}
+
+/// Whether a row of vector arithmetic with these operands is legal.
+#[inline(never)]
+fn arithmetic(family: Family, operands: Operands, shape: Shape, i: &Instr, at: &Setting) -> bool
+    requires class { class_of i.now.op ≡ class.VectorArithmetic family }
+    requires shape { shape_of i.now.op ≡ shape }
+    requires operands { operands ≡ operands_of family }
+    ensures { result ≡ not (is_illegal i.now (view_of at.now)) }
+{
+    let groups = arithmetic_groups(family, operands, shape, i, at);
+    obeys_all(i, at, &groups)
+}
+
+/// Whether a vector load is legal.
+#[inline(never)]
+fn load(addressing: Addressing, width: Eew, i: &Instr, at: &Setting) -> bool
+    requires { class_of i.now.op ≡ class.VectorLoad addressing width }
+    ensures { result ≡ not (is_illegal i.now (view_of at.now)) }
+{
+    let groups = load_groups(addressing, width, i, at);
+    obeys_all(i, at, &groups)
+}
+
+/// Whether a vector store is legal.
+#[inline(never)]
+fn store(addressing: Addressing, width: Eew, i: &Instr, at: &Setting) -> bool
+    requires { class_of i.now.op ≡ class.VectorStore addressing width }
+    ensures { result ≡ not (is_illegal i.now (view_of at.now)) }
+{
+    let groups = store_groups(addressing, width, i, at);
+    obeys_all(i, at, &groups)
+}
+
+/// Whether an instruction obeys all rules.
+#[inline(always)]
+fn obeys_all(i: &Instr, at: &Setting, groups: &Groups) -> bool
+    requires { AreGroupsOf groups.now i.now (view_of at.now) }
+    ensures { result ≡ not (is_illegal i.now (view_of at.now)) }
+{
+    !(lacks_configuration(i, at, groups)
+        || has_bad_group(i, at, groups)
+        || has_long_segment(i, at, groups)
+        || overwrites_mask(i, at, groups)
+        || overlaps_badly(i, at, groups)
+        || meets_source(i, at, groups)
+        || begins_late(i, at, groups)
+        || is_too_wide(i, at, groups))
 }
 
 /// vill is set, and the instruction needs a configuration.
@@ -150,7 +246,7 @@ fn is_bad_group(g: Group) -> bool
 {
     is_bad_width(g)
         || !(1 <= g.emul_eighths && g.emul_eighths <= 64)
-        || !(u64::from(g.register) % g.registers() == 0)
+        || !(g.register % g.registers() == 0)
 }
 
 /// The same of an operand, where there is one.
