@@ -1,5 +1,5 @@
 ghost use Rattle.std.specs.List.{Contains, list_any};
-ghost use Rattle.std.specs.Prelude.{◌≡◌, ℕ, ◌+◌, ◌*◌, ◌/◌, ◌<◌, ◌^◌, ◌&&◌, if◌then◌else◌, IsTrue, length, List, slice_index, Some};
+ghost use Rattle.std.specs.Prelude.{◌≡◌, ℕ, ◌+◌, ◌*◌, ◌/◌, ◌<◌, ◌^◌, ◌&&◌, if◌then◌else◌, IsTrue, length, List, slice_index, None, Some};
 ghost use Rattle.vx_vector.specs.Arithmetic.{saturates, told, words_after};
 ghost use Rattle.vx_vector.specs.Laws.{
   AreSameAt,
@@ -30,10 +30,11 @@ use vx_vstate::{
 };
 
 /// Law of words: after the instruction, word `w` of the destination is the one that is made of its elements, and the
-/// instruction saturates where a word that it makes does. So words can be made one by one, in any order. A word is a number
+/// instruction saturates where a word that it makes does, which are words of the destination. So words can be made one by one, in any order. A word is a number
 /// of 64 bits.
 pub fn words_are_made()
     ensures value { (r : Reading) (w : ℕ) → IsSound r → word_before r w < 2 ^ 64 → w < length (destination_words r) → word_at r.at.vlen (words_after r) r.places.vd w ≡ made_word r w }
+    ensures inside { (r : Reading) (w : ℕ) → IsSound r → told r ≡ None → Contains (made_words r) w → w < length (destination_words r) }
     ensures sat { (r : Reading) → IsSound r → saturates r ≡ list_any (word_saturates r) (made_words r) }
 {
     joined_by_elements();
