@@ -42,9 +42,10 @@ fn sums(rt: HostRuntime) {
 /// Elements 2 to 5 of a word whose first is element 0, but for element 3, which the mask leaves out.
 #[test]
 fn lanes(rt: HostRuntime) {
-    let active = active_lanes(0, 2, 6, 0xfff7);
+    let active = active_lanes(8, 0, 2, 6, 0xfff7);
     assert_eq!(rt; active, 0b11_0100);
-    assert_eq!(rt; active_lanes(64, 60, 66, 0xffff), 0b11);
+    assert_eq!(rt; active_lanes(64, 64, 60, 66, 0xffff), 0b11);
+    assert_eq!(rt; active_lanes(2, 64, 60, 66, 0b1001), 0b1001);
     assert_eq!(rt;
         merge(8, active, 0x0807_0605_0403_0201, u64::MAX),
         0xffff_0605_ff03_ffff

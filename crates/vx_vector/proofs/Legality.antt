@@ -1,5 +1,5 @@
 -- What a legal instruction reads is sound.
-use Rattle.std.proofs.Common.{◌≡◌, ℕ, suc, ◌+◌, ◌*◌, ◌/◌, ◌%◌, ◌^◌, ◌<◌, ◌≤◌, Bool, true, false, not, ◌&&◌, ◌||◌, IsTrue, nat_eq, leb, List, [], ◌∷◌, length, Some, None, slice_index, refl, sym, ap, ◌∙◌, subst, ⊎_elim, arith}
+use Rattle.std.proofs.Common.{◌≡◌, ℕ, suc, ◌+◌, ◌*◌, ◌/◌, ◌%◌, ◌<◌, ◌≤◌, Bool, true, false, not, ◌&&◌, ◌||◌, IsTrue, nat_eq, leb, List, [], ◌∷◌, length, Some, None, refl, sym, ap, ◌∙◌, subst, ⊎_elim, arith}
 use Rattle.std.specs.List.{list_any}
 use Rattle.std.proofs.lemmas.Bool.{not-false, false≢true, true≢false, or_parts, and_parts, and_cases, leb-true, eqb-true, or_cases}
 use Rattle.std.proofs.lemmas.Bool.Decides.{nat_tests}
@@ -305,25 +305,24 @@ start-is n b h e =
     (λ f. absurd (true≢false (sym e ∙ f)))
     (and_cases (not (nat_eq n 0)) b h)
 
-sound-reading : (L : GroupLaws) → (family : Family) (f : First) (s : Second) (v : Vm) (op : Op) (at : SettingView) (places : Places) (words : List ℕ) → IsSetting at → places.vd < 32 → places.vs1 < 32 → places.vs2 < 32 → IsAccepted (VectorArithmetic family) (Vector f s v) (instr_at op places) at → length words ≡ words_of_all at.vlen → ((place : ℕ) → slice_index words place < 2 ^ 64) → IsSound (record { family = family; first = f; vm = v; at = at; places = places; words = words })
-sound-reading L family f s v op at places words k vd vs1 vs2 h count bits =
+sound-reading : (L : GroupLaws) → (family : Family) (f : First) (s : Second) (v : Vm) (op : Op) (at : SettingView) (places : Places) (words : List ℕ) → IsSetting at → places.vd < 32 → places.vs1 < 32 → places.vs2 < 32 → IsAccepted (VectorArithmetic family) (Vector f s v) (instr_at op places) at → length words ≡ words_of_all at.vlen → IsSound (record { family = family; first = f; vm = v; at = at; places = places; words = words })
+sound-reading L family f s v op at places words k vd vs1 vs2 h count =
     let r : Reading = record { family = family; first = f; vm = v; at = at; places = places; words = words } in
     let i = instr_at op places in
     let parts = or_parts (list_any is_bad_group (second_source s (operands_of family).vs2 i at)) (list_any is_bad_group (first_source f (operands_of family).vs1 i at)) (sym (list_any-append is_bad_group (second_source s (operands_of family).vs2 i at) (first_source f (operands_of family).vs1 i at)) ∙ h.sources) in
     record {
       setting = k;
       count = count;
-      bits = bits;
       destination = placed L r k (operands_of family).destination places.vd vd h.destinations;
       vs2 = placed-second L r k s i h.fits refl vs2 parts.0;
       vs1 = placed-first L r k f i refl vs1 parts.1;
       start = start-is at.vstart (begins_at_first (VectorArithmetic family)) h.begins;
     }
 
-sound-as : (L : GroupLaws) (class : Class) (shape : Shape) (op : Op) (at : SettingView) (places : Places) (words : List ℕ) (r : Reading) → IsSetting at → places.vd < 32 → places.vs1 < 32 → places.vs2 < 32 → IsAccepted class shape (instr_at op places) at → length words ≡ words_of_all at.vlen → ((place : ℕ) → slice_index words place < 2 ^ 64) → reading_as class shape at places words ≡ Some r → IsSound r
-sound-as L (VectorArithmetic family) (Vector f s v) op at places words r k vd vs1 vs2 h count bits e =
-    subst IsSound (some-is _ r e) (sound-reading L family f s v op at places words k vd vs1 vs2 h count bits)
-sound-as L class shape op at places words r k vd vs1 vs2 h count bits e = absurd (none-some r e)
+sound-as : (L : GroupLaws) (class : Class) (shape : Shape) (op : Op) (at : SettingView) (places : Places) (words : List ℕ) (r : Reading) → IsSetting at → places.vd < 32 → places.vs1 < 32 → places.vs2 < 32 → IsAccepted class shape (instr_at op places) at → length words ≡ words_of_all at.vlen → reading_as class shape at places words ≡ Some r → IsSound r
+sound-as L (VectorArithmetic family) (Vector f s v) op at places words r k vd vs1 vs2 h count e =
+    subst IsSound (some-is _ r e) (sound-reading L family f s v op at places words k vd vs1 vs2 h count)
+sound-as L class shape op at places words r k vd vs1 vs2 h count e = absurd (none-some r e)
 
 accepted : (i : Instr) (at : SettingView) → is_illegal i at ≡ false → row_fits (class_of i.op) (shape_of i.op) ≡ true → IsAccepted (class_of i.op) (shape_of i.op) i at
 accepted i at h f =
@@ -337,6 +336,6 @@ accepted i at h f =
     let groups = or_parts (list_any is_bad_group (destinations_as (class_of i.op) i at)) (list_any is_bad_group (sources_as (class_of i.op) (shape_of i.op) i at)) k.1 in
     record { fits = f; destinations = groups.0; sources = groups.1; begins = b.1 }
 
-pub legal-sound : (L : GroupLaws) (op : Op) (at : SettingView) (places : Places) (words : List ℕ) (r : Reading) → IsLegal op at places → length words ≡ words_of_all at.vlen → ((place : ℕ) → slice_index words place < 2 ^ 64) → reading_of op at places words ≡ Some r → IsSound r
-legal-sound L op at places words r h count bits e =
-    sound-as L (class_of op) (shape_of op) op at places words r h.setting h.vd h.vs1 h.vs2 (accepted (instr_at op places) at h.legal (row-fits op)) count bits e
+pub legal-sound : (L : GroupLaws) (op : Op) (at : SettingView) (places : Places) (words : List ℕ) (r : Reading) → IsLegal op at places → length words ≡ words_of_all at.vlen → reading_of op at places words ≡ Some r → IsSound r
+legal-sound L op at places words r h count e =
+    sound-as L (class_of op) (shape_of op) op at places words r h.setting h.vd h.vs1 h.vs2 (accepted (instr_at op places) at h.legal (row-fits op)) count e

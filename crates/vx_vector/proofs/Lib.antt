@@ -1,4 +1,5 @@
 pub mod Elements
+pub mod Inside
 pub mod Legality
 pub mod Made
 pub mod Members

@@ -100,12 +100,12 @@ after-bits e r (suc n) place w h =
     subst (λ words. slice_index words place < 2 ^ 64) (sym (after-suc r n)) (result-bits e r n (becomes r n) (after_elements r n) place w (after-bits e r n place w h))
 
 -- a word is that of its elements
-pub word-is : (e : ElementLaws) (r : Reading) (w : ℕ) → IsSound r → is_absent (operands_of r.family).destination ≡ false → word_at r.at.vlen (words_after r) r.places.vd w ≡ made_word r w
-word-is e r w h present =
+pub word-is : (e : ElementLaws) (r : Reading) (w : ℕ) → IsSound r → word_before r w < 2 ^ 64 → is_absent (operands_of r.family).destination ≡ false → word_at r.at.vlen (words_after r) r.places.vd w ≡ made_word r w
+word-is e r w h bits present =
     let width = width-is r h present in
     let f = filled (destination_width r) width in
     let word = word_at r.at.vlen (words_after r) r.places.vd w in
-    let small : word < 2 ^ (per_word r * destination_width r) = subst (λ n. word < 2 ^ n) (sym f.whole) (after-bits e r (count_of r) (place_of r.at.vlen r.places.vd w) width (h.bits (place_of r.at.vlen r.places.vd w))) in
+    let small : word < 2 ^ (per_word r * destination_width r) = subst (λ n. word < 2 ^ n) (sym f.whole) (after-bits e r (count_of r) (place_of r.at.vlen r.places.vd w) width bits) in
     sym (mod-eq_of_lt small)
     ∙ sym (e.whole (destination_width r) (per_word r) word)
     ∙ e.alike (destination_width r) (per_word r) (lane (destination_width r) word) (λ k. element_after r (w * per_word r + k))
@@ -116,8 +116,8 @@ present : (r : Reading) (o : Operand) (register w : ℕ) → w < length (places_
 present r Absent register w h = absurd (omega arith)
 present r other register w h = refl
 
-pub words-made : (e : ElementLaws) (r : Reading) (w : ℕ) → IsSound r → w < length (destination_words r) → word_at r.at.vlen (words_after r) r.places.vd w ≡ made_word r w
-words-made e r w h l = word-is e r w h (present r (operands_of r.family).destination r.places.vd w l)
+pub words-made : (e : ElementLaws) (r : Reading) (w : ℕ) → IsSound r → word_before r w < 2 ^ 64 → w < length (destination_words r) → word_at r.at.vlen (words_after r) r.places.vd w ≡ made_word r w
+words-made e r w h bits l = word-is e r w h bits (present r (operands_of r.family).destination r.places.vd w l)
 
 -- ---- saturation
 

@@ -25,6 +25,17 @@ member_of_map f [] x h = absurd (omega (arith, h.1))
 member_of_map f (y ∷ ys) x (zero, l, e) = subst (λ z. Contains (map f (y ∷ ys)) (f z)) e (member_first (f y) (map f ys))
 member_of_map f (y ∷ ys) x (suc k, l, e) = member_rest (f y) (map f ys) (f x) (member_of_map f ys x (k, omega arith, e))
 
+pub member_before_map : {X Y : Type 0} (f : X → Y) (xs : List X) (y : Y) → Contains (map f xs) y → (x : X) × Contains xs x × (f x ≡ y)
+member_before_map f [] y h = absurd (omega (arith, h.1))
+member_before_map f (x ∷ xs) y (zero, l, e) = (x, member_first x xs, e)
+member_before_map f (x ∷ xs) y (suc k, l, e) = let r = member_before_map f xs y (k, omega arith, e) in (r.0, member_rest x xs r.0 r.1, r.2)
+
+pub range_parts : (from n x : ℕ) → Contains (range_with_len from n) x → (from ≤ x) × (x < from + n)
+range_parts from n x c =
+    let below : c.0 < n = subst (λ m. c.0 < m) (length-range_with_len from n) c.1 in
+    let is : from + c.0 ≡ x = sym (get_or-range_with_len from n c.0 x below) ∙ c.2 in
+    (omega arith, omega arith)
+
 pub member_of_flat_map : {X Y : Type 0} (f : X → List Y) (xs : List X) (x : X) (y : Y) → Contains xs x → Contains (f x) y → Contains (flat_map f xs) y
 member_of_flat_map f [] x y h m = absurd (omega (arith, h.1))
 member_of_flat_map f (z ∷ zs) x y (zero, l, e) m = Contains-append_left (f z) (flat_map f zs) y (subst (λ u. Contains (f u) y) (sym e) m)

@@ -90,14 +90,14 @@ pub record IsWritten (r : Reading) (rule : Rule) (i : ℕ) : Type 0 where
   pub inside : i < count_in r (operands_of r.family).destination
   pub made : Contains (map (made_by r rule) (handled_by r rule)) (element_word (destination_width r) i)
 
-by_group : (r : Reading) → IsSetting r.at → (i : ℕ) → is_grouped (operands_of r.family).destination ≡ true → i < count_of r → i < count_in r (operands_of r.family).destination
+pub by_group : (r : Reading) → IsSetting r.at → (i : ℕ) → is_grouped (operands_of r.family).destination ≡ true → i < count_of r → i < count_in r (operands_of r.family).destination
 by_group r k i g h =
     let plain = plain_count r (grouped_plain (operands_of r.family).destination g) in
     let all = grouped_elements r (operands_of r.family).destination g in
     let vl = vl-le r k in
     omega arith
 
-by_whole : (r : Reading) (i : ℕ) → is_whole (operands_of r.family).destination ≡ true → i < count_of r → i < count_in r (operands_of r.family).destination
+pub by_whole : (r : Reading) (i : ℕ) → is_whole (operands_of r.family).destination ≡ true → i < count_of r → i < count_in r (operands_of r.family).destination
 by_whole r i g h = let all = whole_count r g in omega arith
 
 by_first : (r : Reading) (i : ℕ) → is_single (operands_of r.family).destination ≡ true → IsFirst r i → (i < count_of r) × (i < count_in r (operands_of r.family).destination) × (count_of r ≡ r.at.vl)

@@ -1,6 +1,6 @@
 -- What the laws of vector arithmetic say: words of the destination are made one by one, each of the words that it needs. This
 -- project's own.
-use Rattle.std.specs.Prelude.{◌≡◌, ℕ, ◌+◌, ◌*◌, ◌/◌, ◌^◌, ◌<◌, ◌≤◌, Bool, true, false, ◌||◌, IsTrue, List, length, map, slice_index, Option, Some, None}
+use Rattle.std.specs.Prelude.{◌≡◌, ℕ, ◌+◌, ◌*◌, ◌/◌, ◌<◌, ◌≤◌, Bool, true, false, ◌||◌, IsTrue, List, length, map, slice_index, Option, Some, None}
 use Rattle.std.specs.List.{Contains}
 use Rattle.vx_bits.specs.declared.saturation.Sat.{Sat}
 use Rattle.vx_packed.specs.Joined.{joined, some_below}
@@ -29,12 +29,11 @@ pub record IsPlaced (r : Reading) (operand : Operand) (register : ℕ) : Type 0 
   pub room : register + registers_of_operand r operand ≤ 32
   pub within : (i : ℕ) → i < count_in r operand → element_word (width_of operand (sew_of r)) i < registers_of_operand r operand * words_of_register r.at.vlen
 
--- the words are those of all registers, of 64 bits each; the operands lie in them; and a row that can't go on from an element
--- behind the first doesn't
+-- the words are those of all registers; the operands lie in them; and a row that can't go on from an element behind the first
+-- doesn't
 pub record IsSound (r : Reading) : Type 0 where
   pub setting : IsSetting r.at
   pub count : length r.words ≡ words_of_all r.at.vlen
-  pub bits : (place : ℕ) → slice_index r.words place < 2 ^ 64
   pub destination : IsPlaced r (operands_of r.family).destination r.places.vd
   pub vs2 : IsPlaced r (operands_of r.family).vs2 r.places.vs2
   pub vs1 : IsPlaced r (vs1_operand r) r.places.vs1

@@ -1,5 +1,5 @@
 ghost use Rattle.std.specs.List.{Contains, list_any};
-ghost use Rattle.std.specs.Prelude.{◌≡◌, ℕ, ◌+◌, ◌*◌, ◌/◌, ◌<◌, ◌^◌, ◌&&◌, if◌then◌else◌, IsTrue, length, List, slice_index, Some};
+ghost use Rattle.std.specs.Prelude.{◌≡◌, ℕ, ◌+◌, ◌*◌, ◌/◌, ◌<◌, ◌^◌, ◌&&◌, if◌then◌else◌, IsTrue, length, List, slice_index, None, Some};
 ghost use Rattle.vx_vector.specs.Arithmetic.{saturates, told, words_after};
 ghost use Rattle.vx_vector.specs.Laws.{
   AreSameAt,
@@ -30,9 +30,11 @@ use vx_vstate::{
 };
 
 /// Law of words: after the instruction, word `w` of the destination is the one that is made of its elements, and the
-/// instruction saturates where a word that it makes does. So words can be made one by one, in any order.
+/// instruction saturates where a word that it makes does, which are words of the destination. So words can be made one by one, in any order. A word is a number
+/// of 64 bits.
 pub fn words_are_made()
-    ensures value { (r : Reading) (w : ℕ) → IsSound r → w < length (destination_words r) → word_at r.at.vlen (words_after r) r.places.vd w ≡ made_word r w }
+    ensures value { (r : Reading) (w : ℕ) → IsSound r → word_before r w < 2 ^ 64 → w < length (destination_words r) → word_at r.at.vlen (words_after r) r.places.vd w ≡ made_word r w }
+    ensures inside { (r : Reading) (w : ℕ) → IsSound r → told r ≡ None → Contains (made_words r) w → w < length (destination_words r) }
     ensures sat { (r : Reading) → IsSound r → saturates r ≡ list_any (word_saturates r) (made_words r) }
 {
     joined_by_elements();
@@ -46,7 +48,7 @@ pub fn words_are_made()
 /// Law of legality: what a legal instruction of vector arithmetic reads, of the words of all registers, is sound, which the
 /// other laws ask for.
 pub fn legal_readings_are_sound()
-    ensures { (op : Op) (at : SettingView) (places : Places) (words : List ℕ) (r : Reading) → IsLegal op at places → length words ≡ words_of_all at.vlen → ((place : ℕ) → slice_index words place < 2 ^ 64) → reading_of op at places words ≡ Some r → IsSound r }
+    ensures { (op : Op) (at : SettingView) (places : Places) (words : List ℕ) (r : Reading) → IsLegal op at places → length words ≡ words_of_all at.vlen → reading_of op at places words ≡ Some r → IsSound r }
 {
     elements_lie_in_their_group();
     groups_have_sizes();

@@ -1,9 +1,9 @@
 //! Vector arithmetic as definitions: what each family computes, which elements and words a row reads and writes, and the
 //! instruction as a fold over its elements.
 //!
-//! It stands on the arithmetic of `vx_bits`, on the rows of `vx_rows` and on the registers of `vx_vstate`. The crates that
-//! make words of the destination (`vx_elem` and its kin) are proved against it. Its functions have no code: each states a law
-//! of the definitions.
+//! It stands on the arithmetic of `vx_bits`, on the rows of `vx_rows`, on the registers of `vx_vstate` and on the words of
+//! elements of `vx_packed`. The crates that make words of the destination (`vx_elem` and its kin) are proved against it. Its
+//! functions do nothing: each states a law of the definitions.
 #![tactic(auto)]
 
 mod laws;

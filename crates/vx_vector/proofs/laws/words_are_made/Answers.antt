@@ -1,5 +1,6 @@
 -- The laws of elements, for the fold over them.
 use Rattle.vx_vector.proofs.Elements.{ElementLaws}
+use Rattle.vx_vector.proofs.Inside.{made-inside}
 use Rattle.vx_vector.proofs.Made.{words-made, saturation}
 use Rattle.vx_vector.proofs.laws.words_are_made.Goals as goal
 
@@ -20,3 +21,6 @@ returns-clause-value c = words-made (laws c)
 
 pub returns-clause-sat : goal.returns-clause-sat
 returns-clause-sat c = saturation
+
+pub returns-clause-inside : goal.returns-clause-inside
+returns-clause-inside c = made-inside
