@@ -99,10 +99,20 @@ fn single_arithmetic(family: Family, shape: Shape, i: &Instr, at: &Setting) -> b
 {
     match shape {
         Shape::Vector(First::Vector, Second::Vector, vm) => {
-            singles(family, Shape::Vector(First::Vector, Second::Vector, vm), i, at)
+            singles(
+                family,
+                Shape::Vector(First::Vector, Second::Vector, vm),
+                i,
+                at,
+            )
         }
         Shape::Vector(First::Integer, Second::Vector, vm) => {
-            singles(family, Shape::Vector(First::Integer, Second::Vector, vm), i, at)
+            singles(
+                family,
+                Shape::Vector(First::Integer, Second::Vector, vm),
+                i,
+                at,
+            )
         }
         _ => singles(family, shape, i, at),
     }
