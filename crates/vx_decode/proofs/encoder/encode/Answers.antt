@@ -1,5 +1,5 @@
-use Rattle.std.proofs.Common.{◌≡◌, ℕ, bit_or, ◌*◌, ◌%◌, Some, ap, sym, subst, ◌∙◌}
-use Rattle.vx_rows.specs.Table.{bits_of, shape_of}
+use Rattle.std.proofs.Common.{◌≡◌, ℕ, bit_or, ◌*◌, ◌%◌, ap, sym, ◌∙◌}
+use Rattle.vx_rows.specs.Table.{shape_of}
 use Rattle.vx_rows.specs.Layouts.{layout_of}
 use Rattle.vx_decode.specs.Decoded.{decoded}
 use Rattle.vx_decode.specs.Encoded.{number_bits, vm_bits, word_of}
