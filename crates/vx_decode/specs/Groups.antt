@@ -5,7 +5,6 @@ use Rattle.vx_rows.specs.Families.{operands_of}
 use Rattle.vx_rows.specs.Table.{class_of, shape_of}
 use Rattle.vx_rows.specs.declared.family.Operand.{Operand}
 use Rattle.vx_rows.specs.declared.family.Operand.TheVariants.{Absent, Single, Double, Half, Quarter, Eighth, Sixteen, Mask, Element, WideElement, Whole1, Whole2, Whole4, Whole8}
-use Rattle.vx_rows.specs.declared.family.Operands.{Operands}
 use Rattle.vx_rows.specs.declared.row.Addressing.{Addressing}
 use Rattle.vx_rows.specs.declared.row.Addressing.TheVariants as addressing
 use Rattle.vx_rows.specs.declared.row.Class.{Class}

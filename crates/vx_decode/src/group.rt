@@ -128,7 +128,13 @@ pub(crate) fn store_groups(addressing: Addressing, width: Eew, i: &Instr, at: &S
 
 /// The groups of a row of vector arithmetic with these operands.
 #[inline(always)]
-pub(crate) fn arithmetic_groups(family: Family, operands: Operands, shape: Shape, i: &Instr, at: &Setting) -> Groups
+pub(crate) fn arithmetic_groups(
+    family: Family,
+    operands: Operands,
+    shape: Shape,
+    i: &Instr,
+    at: &Setting,
+) -> Groups
     requires class { class_of i.now.op ≡ class.VectorArithmetic family }
     requires shape { shape_of i.now.op ≡ shape }
     requires destination { operands.destination ≡ (operands_of family).destination }

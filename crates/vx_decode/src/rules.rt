@@ -34,7 +34,7 @@ ghost use Rattle.vx_vstate.specs.Views.{view_of};
 
 use crate::group::{Group, Groups, arithmetic_groups, load_groups, mask_at, store_groups};
 use crate::instr::Instr;
-use vx_rows::{Addressing, Class, Eew, Family, Operand, Operands, Shape};
+use vx_rows::{Addressing, Class, Eew, Family, First, Operand, Operands, Second, Shape};
 use vx_vstate::Setting;
 
 /// Whether a vector instruction may be executed under a setting; false exactly where it raises illegal instruction by one
@@ -88,8 +88,39 @@ fn is_single(o: Operand) -> bool
 }
 
 /// Whether a row of vector arithmetic with those operands is legal: the common case, in code of its own.
-#[inline(never)]
+#[inline(always)]
 fn single_arithmetic(family: Family, shape: Shape, i: &Instr, at: &Setting) -> bool
+    requires class { class_of i.now.op ≡ class.VectorArithmetic family }
+    requires shape { shape_of i.now.op ≡ shape }
+    requires destination { (operands_of family).destination ≡ operand.Single }
+    requires vs2 { (operands_of family).vs2 ≡ operand.Single }
+    requires vs1 { (operands_of family).vs1 ≡ operand.Single }
+    ensures { result ≡ not (is_illegal i.now (view_of at.now)) }
+{
+    match shape {
+        Shape::Vector(First::Vector, Second::Vector, vm) => {
+            singles(
+                family,
+                Shape::Vector(First::Vector, Second::Vector, vm),
+                i,
+                at,
+            )
+        }
+        Shape::Vector(First::Integer, Second::Vector, vm) => {
+            singles(
+                family,
+                Shape::Vector(First::Integer, Second::Vector, vm),
+                i,
+                at,
+            )
+        }
+        _ => singles(family, shape, i, at),
+    }
+}
+
+/// The same of one shape: where the shape is known, little of the rules is left.
+#[inline(always)]
+fn singles(family: Family, shape: Shape, i: &Instr, at: &Setting) -> bool
     requires class { class_of i.now.op ≡ class.VectorArithmetic family }
     requires shape { shape_of i.now.op ≡ shape }
     requires destination { (operands_of family).destination ≡ operand.Single }
