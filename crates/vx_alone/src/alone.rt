@@ -3,7 +3,6 @@ ghost use Rattle.vx_alone.specs.Turns.{turn_of};
 ghost use Rattle.vx_flat.specs.Process.{after, begun, stepped};
 ghost use Rattle.vx_alone.specs.Operands.{IsAligned, IsPerformable};
 ghost use Rattle.vx_base.specs.Numbers.{signed};
-ghost use Rattle.vx_decode.specs.Decoded.{decoded};
 ghost use Rattle.vx_decode.specs.Encoded.{IsValid};
 ghost use Rattle.vx_flat.specs.Service.{service, answered, write};
 ghost use Rattle.vx_flat.specs.State.{following, register};
@@ -19,7 +18,7 @@ use crate::turn::Turn;
 use std::alloc::{AllocError, Global};
 use std::marker::Model;
 use vx_base::Fault;
-use vx_decode::{Instr, decode, decoded_is_valid, encode};
+use vx_decode::{Instr, KnownWords, decoded_is_valid, encode};
 use vx_flat::{Effect, End, Upcoming};
 use vx_image::Image;
 use vx_rows::Class;
@@ -30,6 +29,7 @@ use vx_scalar::{Regs, access_width, loaded, scalar, scalar_address};
 pub struct Alone {
     arch: Arch,
     memory: Memory,
+    words: KnownWords,
     output: Vec<u8>,
     count: u64,
     over: Option<End>,
@@ -63,6 +63,7 @@ impl Alone {
         Ok(Alone {
             arch,
             memory: Memory::of(alloc, image)?,
+            words: KnownWords::new(alloc)?,
             output: Vec::with_capacity(alloc, 1 << 20)?,
             count: 0,
             over: None,
@@ -71,12 +72,13 @@ impl Alone {
 
     /// What stands at the pc.
     #[tactic(auto, unfolding(vx_flat::specs::Step::upcoming))]
-    pub fn upcoming(&self) -> Upcoming
-        ensures { result ≡ upcoming self.now.state }
+    pub fn upcoming(&mut self) -> Upcoming
+        ensures value { result ≡ upcoming self.old.state }
+        ensures same { self.new ≡ self.old }
     {
         match self.memory.word(self.arch.pc) {
             None => Upcoming::Denied,
-            Some(word) => meaning(word),
+            Some(word) => meaning(word, self.words.lookup(word)),
         }
     }
 
@@ -340,7 +342,6 @@ impl Alone {
     {
         self.arch.pc = pc;
         self.count = self.count.saturating_add(1);
-        self.memory.aim(pc);
     }
 
     /// The process ends at a fault.
@@ -355,11 +356,11 @@ impl Alone {
     }
 }
 
-/// What a word means, as what comes next.
-fn meaning(word: u32) -> Upcoming
-    ensures { result ≡ meaning word (decoded word) }
+/// What comes next, of a word and the instruction that it means.
+fn meaning(word: u32, instr: Option<Instr>) -> Upcoming
+    ensures { result ≡ meaning word instr }
 {
-    match decode(word) {
+    match instr {
         Some(i) if is_executed(i.op.class()) => Upcoming::Instruction(i),
         _ => Upcoming::Illegal(word),
     }

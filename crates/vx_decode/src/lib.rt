@@ -1,7 +1,8 @@
 //! Instruction words and what they mean: `decode` reads a word's row and operands, and `encode` writes them.
 //!
 //! It stands on `vx_rows`. To the crates above it gives `Instr` and, as a definition and as `decode`, the instruction
-//! that a word means, `encode`, its inverse both ways, and the law that the instruction of a word is valid.
+//! that a word means, `KnownWords`, which decodes a word once, `encode`, its inverse both ways, and the law that the
+//! instruction of a word is valid.
 #![tactic(auto)]
 
 mod decoder;
@@ -9,6 +10,7 @@ mod encoder;
 mod field;
 mod immediate;
 mod instr;
+mod known;
 mod memory;
 mod operation;
 #[cfg(test)]
@@ -18,3 +20,4 @@ mod vector;
 pub use decoder::{decode, decoded_is_valid};
 pub use encoder::encode;
 pub use instr::Instr;
+pub use known::KnownWords;
