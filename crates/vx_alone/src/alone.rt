@@ -1,4 +1,5 @@
-ghost use Rattle.std.specs.Prelude.{◌≡◌, ◌<◌, ◌≤◌, ◌%◌, ◌^◌, ◌++◌, length, None, IfOk, IsTrue};
+ghost use Rattle.std.specs.Prelude.{◌≡◌, ◌<◌, ◌≤◌, ◌%◌, ◌^◌, ◌++◌, length, true, false, None, IfOk, IsTrue};
+ghost use Rattle.vx_alone.specs.Asking.{asks, class_next, is_service};
 ghost use Rattle.vx_alone.specs.Turns.{turn_of};
 ghost use Rattle.vx_flat.specs.Process.{after, begun, stepped};
 ghost use Rattle.vx_alone.specs.Operands.{IsAligned, IsPerformable};
@@ -12,6 +13,7 @@ ghost use Rattle.vx_rows.specs.Table.{class_of};
 ghost use Rattle.vx_scalar.specs.Operands.{NamesRegisters, is_access_width};
 
 use crate::arch::Arch;
+use crate::asking::{asks, class_next};
 use crate::memory::Memory;
 use crate::service::write;
 use crate::turn::Turn;
@@ -94,14 +96,51 @@ impl Alone {
         self.turn()
     }
 
+    /// Does what stands at the pc, in a machine that isn't over, unless it asks for a service: `serve` does that. Gives the
+    /// class of what stands there, where it is an instruction that is executed.
+    pub fn advance(&mut self) -> Option<Class>
+        requires running { self.old.over ≡ None }
+        ensures class { result ≡ class_next (upcoming self.old.state) }
+        ensures waits { asks result ≡ true → self.new ≡ self.old }
+        ensures stepped { asks result ≡ false → self.new ≡ stepped self.old }
+    {
+        let next = self.upcoming();
+        let class = class_next(next);
+        if asks(class) {
+            return class;
+        }
+        self.perform(next);
+        class
+    }
+
+    /// Does the service that what stands at the pc asks for.
+    pub fn serve(&mut self)
+        requires running { self.old.over ≡ None }
+        requires asking { is_service (upcoming self.old.state) ≡ true }
+        ensures stepped { self.new ≡ stepped self.old }
+    {
+        self.ecall();
+    }
+
+    /// The flat step of a machine that isn't over.
+    fn go(&mut self)
+        requires running { self.old.over ≡ None }
+        ensures stepped { self.new ≡ stepped self.old }
+    {
+        let class = self.advance();
+        if asks(class) {
+            self.serve();
+        }
+    }
+
     /// The flat step. After `Exited` or `Faulted` each step repeats that answer and changes nothing.
     pub fn step(&mut self) -> Turn
         ensures stepped { self.new ≡ stepped self.old }
         ensures turn { result ≡ turn_of self.new.over }
     {
         if self.over.is_none() {
-            let next = self.upcoming();
-            return self.perform(next);
+            self.go();
+            return self.turn();
         }
         self.turn()
     }
@@ -287,7 +326,7 @@ impl Alone {
         if number == 93 {
             self.exit();
         } else {
-            self.serve(number);
+            self.serve_other(number);
         }
     }
 
@@ -301,7 +340,7 @@ impl Alone {
     }
 
     /// Does a service other than exit.
-    fn serve(&mut self, number: u64)
+    fn serve_other(&mut self, number: u64)
         requires running { self.old.over ≡ None }
         ensures { self.new ≡ after self.old (Next (answered self.old.state (service self.old.state number))) }
     {
