@@ -1,4 +1,5 @@
 pub mod Accesses
+pub mod Calls
 pub mod Numbers
 pub mod Pages
 pub mod Performable

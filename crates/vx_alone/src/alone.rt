@@ -1,9 +1,9 @@
-ghost use Rattle.std.specs.Prelude.{◌≡◌, ◌<◌, ◌≤◌, ◌%◌, ◌^◌, ◌++◌, length, None, IfOk, IsTrue};
+ghost use Rattle.std.specs.Prelude.{◌≡◌, ◌<◌, ◌≤◌, ◌%◌, ◌^◌, ◌++◌, length, true, false, None, IfOk, IsTrue};
+ghost use Rattle.vx_alone.specs.Asking.{asks, class_next, is_service};
 ghost use Rattle.vx_alone.specs.Turns.{turn_of};
 ghost use Rattle.vx_flat.specs.Process.{after, begun, stepped};
 ghost use Rattle.vx_alone.specs.Operands.{IsAligned, IsPerformable};
 ghost use Rattle.vx_base.specs.Numbers.{signed};
-ghost use Rattle.vx_decode.specs.Decoded.{decoded};
 ghost use Rattle.vx_decode.specs.Encoded.{IsValid};
 ghost use Rattle.vx_flat.specs.Service.{service, answered, write};
 ghost use Rattle.vx_flat.specs.State.{following, register};
@@ -13,13 +13,14 @@ ghost use Rattle.vx_rows.specs.Table.{class_of};
 ghost use Rattle.vx_scalar.specs.Operands.{NamesRegisters, is_access_width};
 
 use crate::arch::Arch;
+use crate::asking::{asks, class_next};
 use crate::memory::Memory;
 use crate::service::write;
 use crate::turn::Turn;
 use std::alloc::{AllocError, Global};
 use std::marker::Model;
 use vx_base::Fault;
-use vx_decode::{Instr, decode, decoded_is_valid, encode};
+use vx_decode::{Instr, KnownWords, decoded_is_valid, encode};
 use vx_flat::{Effect, End, Upcoming};
 use vx_image::Image;
 use vx_rows::Class;
@@ -30,6 +31,7 @@ use vx_scalar::{Regs, access_width, loaded, scalar, scalar_address};
 pub struct Alone {
     arch: Arch,
     memory: Memory,
+    words: KnownWords,
     output: Vec<u8>,
     count: u64,
     over: Option<End>,
@@ -63,6 +65,7 @@ impl Alone {
         Ok(Alone {
             arch,
             memory: Memory::of(alloc, image)?,
+            words: KnownWords::new(alloc)?,
             output: Vec::with_capacity(alloc, 1 << 20)?,
             count: 0,
             over: None,
@@ -71,12 +74,13 @@ impl Alone {
 
     /// What stands at the pc.
     #[tactic(auto, unfolding(vx_flat::specs::Step::upcoming))]
-    pub fn upcoming(&self) -> Upcoming
-        ensures { result ≡ upcoming self.now.state }
+    pub fn upcoming(&mut self) -> Upcoming
+        ensures value { result ≡ upcoming self.old.state }
+        ensures same { self.new ≡ self.old }
     {
         match self.memory.word(self.arch.pc) {
             None => Upcoming::Denied,
-            Some(word) => meaning(word),
+            Some(word) => meaning(word, self.words.lookup(word)),
         }
     }
 
@@ -92,14 +96,51 @@ impl Alone {
         self.turn()
     }
 
+    /// Does what stands at the pc, in a machine that isn't over, unless it asks for a service: `serve` does that. Gives the
+    /// class of what stands there, where it is an instruction that is executed.
+    pub fn advance(&mut self) -> Option<Class>
+        requires running { self.old.over ≡ None }
+        ensures class { result ≡ class_next (upcoming self.old.state) }
+        ensures waits { asks result ≡ true → self.new ≡ self.old }
+        ensures stepped { asks result ≡ false → self.new ≡ stepped self.old }
+    {
+        let next = self.upcoming();
+        let class = class_next(next);
+        if asks(class) {
+            return class;
+        }
+        self.perform(next);
+        class
+    }
+
+    /// Does the service that what stands at the pc asks for.
+    pub fn serve(&mut self)
+        requires running { self.old.over ≡ None }
+        requires asking { is_service (upcoming self.old.state) ≡ true }
+        ensures stepped { self.new ≡ stepped self.old }
+    {
+        self.ecall();
+    }
+
+    /// The flat step of a machine that isn't over.
+    fn go(&mut self)
+        requires running { self.old.over ≡ None }
+        ensures stepped { self.new ≡ stepped self.old }
+    {
+        let class = self.advance();
+        if asks(class) {
+            self.serve();
+        }
+    }
+
     /// The flat step. After `Exited` or `Faulted` each step repeats that answer and changes nothing.
     pub fn step(&mut self) -> Turn
         ensures stepped { self.new ≡ stepped self.old }
         ensures turn { result ≡ turn_of self.new.over }
     {
         if self.over.is_none() {
-            let next = self.upcoming();
-            return self.perform(next);
+            self.go();
+            return self.turn();
         }
         self.turn()
     }
@@ -285,7 +326,7 @@ impl Alone {
         if number == 93 {
             self.exit();
         } else {
-            self.serve(number);
+            self.serve_other(number);
         }
     }
 
@@ -299,7 +340,7 @@ impl Alone {
     }
 
     /// Does a service other than exit.
-    fn serve(&mut self, number: u64)
+    fn serve_other(&mut self, number: u64)
         requires running { self.old.over ≡ None }
         ensures { self.new ≡ after self.old (Next (answered self.old.state (service self.old.state number))) }
     {
@@ -340,7 +381,6 @@ impl Alone {
     {
         self.arch.pc = pc;
         self.count = self.count.saturating_add(1);
-        self.memory.aim(pc);
     }
 
     /// The process ends at a fault.
@@ -355,11 +395,11 @@ impl Alone {
     }
 }
 
-/// What a word means, as what comes next.
-fn meaning(word: u32) -> Upcoming
-    ensures { result ≡ meaning word (decoded word) }
+/// What comes next, of a word and the instruction that it means.
+fn meaning(word: u32, instr: Option<Instr>) -> Upcoming
+    ensures { result ≡ meaning word instr }
 {
-    match decode(word) {
+    match instr {
         Some(i) if is_executed(i.op.class()) => Upcoming::Instruction(i),
         _ => Upcoming::Illegal(word),
     }

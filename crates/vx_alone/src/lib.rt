@@ -7,12 +7,14 @@
 
 mod alone;
 mod arch;
+mod asking;
 mod memory;
 mod service;
 mod turn;
 
 pub use alone::Alone;
 pub use arch::Arch;
+pub use asking::asks;
 pub use turn::Turn;
 pub use vx_flat::{End, Upcoming};
 pub use vx_scalar::Regs;

@@ -19,8 +19,8 @@ const PAGE_LEN: usize = 4096;
 const PAGE_BYTES: u64 = PAGE_LEN as u64;
 
 /// The memory of a process, by page: the entries of the mapped pages in rising order, and the bytes of all of them. It
-/// keeps the places of the last page that was aimed at and of the last that was loaded from or stored to, at which a search
-/// looks first.
+/// keeps the places of the last page that was fetched from and of the last that was loaded from or stored to, at which a
+/// search looks first.
 #[derive(Debug, Drop)]
 pub struct Memory {
     entries: Vec<PageEntry>,
@@ -55,12 +55,14 @@ impl Memory {
     }
 
     /// The instruction word at an address that is a multiple of 4; `None` exactly where it can't be fetched.
-    pub fn word(&self, address: u64) -> Option<u32>
+    pub fn word(&mut self, address: u64) -> Option<u32>
         requires { address % 4 ≡ 0 }
-        ensures { MatchOption result (permits self.now address want.Fetch ≡ false) (λ word.
-            (permits self.now address want.Fetch ≡ true) × (word ≡ from_little_endian (bytes_at self.now address 4))) }
+        ensures memory { self.new ≡ self.old }
+        ensures word { MatchOption result (permits self.old address want.Fetch ≡ false) (λ word.
+            (permits self.old address want.Fetch ≡ true) × (word ≡ from_little_endian (bytes_at self.old address 4))) }
     {
         let place = granting(&self.entries, self.code, address, Want::Fetch)?;
+        self.code = place;
         let at = index_of(place, address);
         Some(u32::from_le_bytes([
             self.bytes[at],
@@ -68,15 +70,6 @@ impl Memory {
             self.bytes[at + 2],
             self.bytes[at + 3],
         ]))
-    }
-
-    /// Lets the fetches to come look first at the page of an address.
-    pub fn aim(&mut self, address: u64)
-        ensures { self.new ≡ self.old }
-    {
-        if let Some(place) = place_near(&self.entries, self.code, address / PAGE_BYTES) {
-            self.code = place;
-        }
     }
 
     /// The number that so many bytes from an address on are, least first; `None` exactly where they can't be read. The

@@ -2,9 +2,9 @@
 //! whether a vector instruction may be executed under a setting.
 //!
 //! It stands on `vx_rows` and, for the setting, on `vx_vstate`. To the crates above it gives `Instr` and, as a definition
-//! and as `decode`, the instruction that a word means; `encode`, its inverse both ways, and the law that the instruction of
-//! a word is valid; and, as definitions, the groups of registers that a vector instruction's operands are and the rules by
-//! which it is illegal, with `legal`, which is exact.
+//! and as `decode`, the instruction that a word means; `KnownWords`, which decodes a word once; `encode`, its inverse both
+//! ways, and the law that the instruction of a word is valid; and, as definitions, the groups of registers that a vector
+//! instruction's operands are and the rules by which it is illegal, with `legal`, which is exact.
 #![tactic(auto)]
 
 mod decoder;
@@ -13,6 +13,7 @@ mod field;
 mod group;
 mod immediate;
 mod instr;
+mod known;
 mod memory;
 mod operation;
 mod rules;
@@ -24,4 +25,5 @@ pub use decoder::{decode, decoded_is_valid};
 pub use encoder::encode;
 pub use group::Group;
 pub use instr::Instr;
+pub use known::KnownWords;
 pub use rules::legal;

@@ -8,6 +8,7 @@ use Rattle.vx_rows.specs.Table.{class_of}
 use Rattle.vx_rows.specs.declared.op.Op.{Op}
 use Rattle.vx_rows.specs.declared.row.Class.{Class}
 use Rattle.vx_rows.specs.declared.row.Class.TheVariants as class
+use Rattle.vx_alone.specs.Asking.{is_service, is_service_class}
 use Rattle.vx_base.specs.Numbers.{reduced}
 use Rattle.vx_base.specs.declared.machine.Want.TheVariants.{Load, Store}
 use Rattle.vx_flat.specs.Access.{access_address}
@@ -34,7 +35,6 @@ use Rattle.vx_times.specs.declared.pause.Pause.{Pause}
 use Rattle.vx_times.specs.declared.pause.Pause.TheVariants.{Slice, Service, Over}
 use Rattle.vx_system.proofs.Quiet.{IsQuiet, IsQuiet-start, RetiresAt, RetiresAt-plain, RetiresAt-access, StopsAt, StopsAt-serial, StopsAt-access, in_order, one_access, access_of}
 use Rattle.vx_system.specs.Order.{class_time, class_fault_time, retire_time, fault_time}
-use Rattle.vx_system.specs.Runs.{is_service, is_service_class}
 
 -- the process goes on after the outcome, or ends with it
 abbrev pub GoesOn : Outcome → Type 0

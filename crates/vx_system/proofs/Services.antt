@@ -4,6 +4,7 @@ use Rattle.std.proofs.lemmas.Bool.{eqb-true}
 use Rattle.std.proofs.lemmas.List.{append-nil, length-append}
 use Rattle.std.specs.Prelude.{ℤ, ◌==◌, if◌then◌else◌}
 use Rattle.vx_base.specs.Numbers.{signed}
+use Rattle.vx_alone.specs.Asking.{is_service, is_service_class}
 use Rattle.vx_decode.specs.declared.instr.Instr.{Instr}
 use Rattle.vx_rows.specs.Table.{class_of}
 use Rattle.vx_rows.specs.declared.row.Class.{Class}
@@ -16,7 +17,7 @@ use Rattle.vx_flat.specs.Step.Outcome.{Next, Exited}
 use Rattle.vx_flat.specs.declared.upcoming.Upcoming.{Upcoming}
 use Rattle.vx_flat.specs.declared.upcoming.Upcoming.TheVariants.{Denied, Illegal, Instruction}
 use Rattle.vx_system.proofs.Episodes.{stepped-is, true-false}
-use Rattle.vx_system.specs.Runs.{is_service, is_service_class, IsAsking}
+use Rattle.vx_system.specs.Runs.{IsAsking}
 
 class-ecall : (c : Class) (s : Flat) (i : Instr) → is_service_class c ≡ true → performed_as c s i ≡ ecall s
 class-ecall class.Ecall s i asks = refl

@@ -1,9 +1,8 @@
 -- The cycles of an instruction that is alone in flight, from its issue on. This project's own; that they are those of the
 -- timing equations is proved. What never retires, or never faults, has some number that nothing asks for.
-use Rattle.std.specs.Prelude.{ℕ, ◌+◌}
+use Rattle.std.specs.Prelude.{ℕ, ◌+◌, Option, Some, None}
+use Rattle.vx_alone.specs.Asking.{class_next}
 use Rattle.vx_flat.specs.declared.upcoming.Upcoming.{Upcoming}
-use Rattle.vx_flat.specs.declared.upcoming.Upcoming.TheVariants.{Denied, Illegal, Instruction}
-use Rattle.vx_rows.specs.Table.{class_of}
 use Rattle.vx_rows.specs.declared.row.Class.{Class}
 use Rattle.vx_rows.specs.declared.row.Class.TheVariants as class
 use Rattle.vx_times.specs.Footprint.{multiply_latency, divide_latency}
@@ -45,12 +44,17 @@ class_fault_time (class.VectorArithmetic family) = 0
 class_fault_time (class.VectorLoad addressing width) = 0
 class_fault_time (class.VectorStore addressing width) = 0
 
+-- the same of what comes next, by its class where it is an instruction
+abbrev pub time_as : Option Class → (bank_time : ℕ) → ℕ
+time_as None bank_time = 2
+time_as (Some c) bank_time = class_time c bank_time
+
+abbrev pub fault_time_as : Option Class → ℕ
+fault_time_as None = 0
+fault_time_as (Some c) = class_fault_time c
+
 abbrev pub retire_time : Upcoming → (bank_time : ℕ) → ℕ
-retire_time Denied bank_time = 2
-retire_time (Illegal word) bank_time = 2
-retire_time (Instruction i) bank_time = class_time (class_of i.op) bank_time
+retire_time next bank_time = time_as (class_next next) bank_time
 
 abbrev pub fault_time : Upcoming → ℕ
-fault_time Denied = 0
-fault_time (Illegal word) = 0
-fault_time (Instruction i) = class_fault_time (class_of i.op)
+fault_time next = fault_time_as (class_next next)

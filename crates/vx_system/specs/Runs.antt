@@ -1,15 +1,11 @@
 -- What a system is seen as, and what its run does. This project's own.
-use Rattle.std.specs.Prelude.{◌≡◌, ℕ, ◌+◌, ◌≤◌, ◌<◌, ◌^◌, Bool, true, false, Some, None}
+use Rattle.std.specs.Prelude.{◌≡◌, ℕ, ◌+◌, ◌≤◌, ◌<◌, ◌^◌, true, Some, None}
+use Rattle.vx_alone.specs.Asking.{is_service}
 use Rattle.vx_base.specs.declared.options.Options.{Options}
 use Rattle.vx_flat.specs.Process.{Process, stepped_on}
 use Rattle.vx_flat.specs.Step.{upcoming}
-use Rattle.vx_flat.specs.declared.upcoming.Upcoming.{Upcoming}
-use Rattle.vx_flat.specs.declared.upcoming.Upcoming.TheVariants.{Denied, Illegal, Instruction}
 use Rattle.vx_machine.specs.Machine.{Machine, Settings, rounds, stop_of}
 use Rattle.vx_machine.specs.declared.stop.Stop.{Stop}
-use Rattle.vx_rows.specs.Table.{class_of}
-use Rattle.vx_rows.specs.declared.row.Class.{Class}
-use Rattle.vx_rows.specs.declared.row.Class.TheVariants as class
 
 -- the system of one process: the settings, and the machine as it is now
 pub record SystemState : Type 0 where
@@ -42,30 +38,6 @@ pub record Runs (before after : SystemState) (stop : Stop) : Type 0 where
   pub stops : stop_of before.settings after.machine ≡ Some stop
   pub steps : StepsTo before.machine.process after.machine.process before.machine.clock after.machine.clock
   pub bounded : after.machine.clock < 2 ^ 63
-
--- an instruction of the class asks for a service
-abbrev pub is_service_class : Class → Bool
-is_service_class class.Arithmetic = false
-is_service_class class.Multiply = false
-is_service_class class.Divide = false
-is_service_class class.Jump = false
-is_service_class class.Branch = false
-is_service_class class.Load = false
-is_service_class class.Store = false
-is_service_class class.Fence = false
-is_service_class class.Ecall = true
-is_service_class class.Ebreak = false
-is_service_class class.Csr = false
-is_service_class class.Set = false
-is_service_class (class.VectorArithmetic family) = false
-is_service_class (class.VectorLoad addressing width) = false
-is_service_class (class.VectorStore addressing width) = false
-
--- what comes next asks for a service
-abbrev pub is_service : Upcoming → Bool
-is_service Denied = false
-is_service (Illegal word) = false
-is_service (Instruction i) = is_service_class (class_of i.op)
 
 -- the process goes on, and asks for a service
 pub record IsAsking (p : Process) : Type 0 where

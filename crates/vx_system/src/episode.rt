@@ -4,8 +4,8 @@ ghost use Rattle.vx_machine.specs.Machine.{words_moved};
 ghost use Rattle.vx_system.specs.Runs.{IsAsking, StepsTo};
 ghost use Rattle.vx_times.specs.Episode.{episode};
 
-use crate::timing::{TRAP, fault_time, is_service, retire_time, words_held};
-use vx_alone::Alone;
+use crate::timing::{TRAP, fault_time, retire_time, words_held};
+use vx_alone::{Alone, asks};
 use vx_flat::operations_do_as_their_class;
 use vx_times::Pause;
 
@@ -32,15 +32,14 @@ pub fn run_episode(process: &mut Alone, start: u64, until: u64, bank_time: u64) 
     operations_do_as_their_class();
     let mut retired = start;
     loop {
-        let next = process.upcoming();
+        let next = process.advance();
         let issued = retired + 1;
-        if is_service(next) {
+        if asks(next) {
             return Episode {
                 pause: Pause::Service,
                 clock: issued + TRAP,
             };
         }
-        process.perform(next);
         if process.over().is_some() {
             return Episode {
                 pause: Pause::Over,
@@ -64,10 +63,9 @@ pub fn serve(process: &mut Alone) -> u64
     ensures words { result ≡ words_moved process.old.state }
     ensures bounded { result ≤ 2 ^ 20 + 1 }
 {
-    let next = process.upcoming();
     let address = process.arch().regs.x[11];
     let before = process.output().len();
-    process.perform(next);
+    process.serve();
     let written = process.output().len().saturating_sub(before);
     words_held(address, written as u64)
 }

@@ -1,9 +1,7 @@
 ghost use Rattle.std.specs.Prelude.{◌≡◌, ◌<◌, ◌^◌};
 ghost use Rattle.vx_machine.specs.Machine.{words_held};
-ghost use Rattle.vx_system.specs.Order.{fault_time, retire_time};
-ghost use Rattle.vx_system.specs.Runs.{is_service};
+ghost use Rattle.vx_system.specs.Order.{fault_time_as, time_as};
 
-use vx_flat::Upcoming;
 use vx_rows::Class;
 
 /// Cycles for taking another process than the one that ran last.
@@ -21,14 +19,16 @@ const MULTIPLY: u64 = 3;
 /// Cycles from the issue of a division or a remainder to its completion.
 const DIVIDE: u64 = 20;
 
-/// How many cycles an instruction takes from its issue to its retire, which is one cycle after its completion: a load and a
-/// store complete once their bank is done, an instruction that has no time of its own one cycle after its issue.
-pub fn retire_time(next: Upcoming, bank_time: u64) -> u64
+/// How many cycles what comes next, of this class where it is an instruction, takes from its issue to its retire, which is
+/// one cycle after its completion: a load and a store complete once their bank is done, an instruction that has no time of
+/// its own one cycle after its issue.
+pub fn retire_time(next: Option<Class>, bank_time: u64) -> u64
     requires bank_time { bank_time < 2 ^ 32 }
-    ensures { result ≡ retire_time next bank_time }
+    ensures { result ≡ time_as next bank_time }
 {
     match next {
-        Upcoming::Instruction(i) => match i.op.class() {
+        None => 2,
+        Some(class) => match class {
             Class::Multiply => MULTIPLY + 1,
             Class::Divide => DIVIDE + 1,
             Class::Load | Class::Store => bank_time + 3,
@@ -36,40 +36,21 @@ pub fn retire_time(next: Upcoming, bank_time: u64) -> u64
             Class::Ecall | Class::Ebreak | Class::Csr | Class::Set => 2,
             Class::VectorArithmetic(_) | Class::VectorLoad(_, _) | Class::VectorStore(_, _) => 2,
         },
-        Upcoming::Denied | Upcoming::Illegal(_) => 2,
     }
 }
 
-/// How many cycles after its issue an instruction that faults ends its episode: none, a load or a store once its page was
-/// looked up.
-pub fn fault_time(next: Upcoming) -> u64
-    ensures { result ≡ fault_time next }
+/// How many cycles after its issue what faults ends its episode: none, a load or a store once its page was looked up.
+pub fn fault_time(next: Option<Class>) -> u64
+    ensures { result ≡ fault_time_as next }
 {
     match next {
-        Upcoming::Instruction(i) => match i.op.class() {
+        None => 0,
+        Some(class) => match class {
             Class::Load | Class::Store => 1,
             Class::Arithmetic | Class::Multiply | Class::Divide | Class::Jump | Class::Branch => 0,
             Class::Fence | Class::Ecall | Class::Ebreak | Class::Csr | Class::Set => 0,
             Class::VectorArithmetic(_) | Class::VectorLoad(_, _) | Class::VectorStore(_, _) => 0,
         },
-        Upcoming::Denied | Upcoming::Illegal(_) => 0,
-    }
-}
-
-/// Whether it asks for a service.
-pub fn is_service(next: Upcoming) -> bool
-    ensures { result ≡ is_service next }
-{
-    match next {
-        Upcoming::Instruction(i) => match i.op.class() {
-            Class::Ecall => true,
-            Class::Arithmetic | Class::Multiply | Class::Divide | Class::Jump | Class::Branch =>
-                false,
-            Class::Load | Class::Store | Class::Fence | Class::Ebreak => false,
-            Class::Csr | Class::Set | Class::VectorArithmetic(_) => false,
-            Class::VectorLoad(_, _) | Class::VectorStore(_, _) => false,
-        },
-        Upcoming::Denied | Upcoming::Illegal(_) => false,
     }
 }
 

@@ -7,7 +7,7 @@ use Rattle.vx_system.proofs.episode.serve.Goals as goal
 pub returns-clause-words : goal.returns-clause-words
 returns-clause-words c =
     let s = c.args.process.now.state in
-    let written = written-served c.args.process.now c.perform.new.self c.requires.asking c.perform.ensures.stepped in
+    let written = written-served c.args.process.now c.serve.new.self c.requires.asking c.serve.ensures.stepped in
     let count : c.saturating_sub-written.result ≡ length (service s (register s 17)).written = cc written in
     let registers = c.arch.ensures.registers in
     let address : register s 11 ≡ register (record s { x = c.arch.result.now.regs.x }) 11 = cc in

@@ -8,8 +8,8 @@ use Rattle.vx_flat.specs.Memory.{permits, bytes_at}
 use Rattle.vx_alone.proofs.Accesses.{word_there}
 use Rattle.vx_alone.proofs.memory.Memory.word.Goals as goal
 
-pub returns : goal.returns
-returns c =
+pub returns-clause-word : goal.returns-clause-word
+returns-clause-word c =
     let entries = c.self.inside.entries.items in
     let bytes = c.self.inside.bytes.items in
     let granted = rw c.deref.ensures.value at c.in_ok-place.ensures in
