@@ -11,6 +11,7 @@ mod field;
 mod immediate;
 mod instr;
 mod known;
+mod known_words;
 mod memory;
 mod operation;
 #[cfg(test)]
@@ -20,4 +21,5 @@ mod vector;
 pub use decoder::{decode, decoded_is_valid};
 pub use encoder::encode;
 pub use instr::Instr;
-pub use known::KnownWords;
+pub use known::Known;
+pub use known_words::KnownWords;
