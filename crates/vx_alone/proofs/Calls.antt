@@ -1,5 +1,5 @@
--- What asks for a service is an ecall.
-use Rattle.std.proofs.Common.{◌≡◌, Option, None, Some, true, refl, sym, ap, ◌∙◌}
+-- What a step does, by what stands at the pc; what asks for a service is an ecall.
+use Rattle.std.proofs.Common.{◌≡◌, ℕ, Bool, Option, None, Some, true, false, if◌then◌else◌, refl, sym, ap, ◌∙◌}
 use Rattle.std.proofs.lemmas.Bool.{false≢true}
 use Rattle.vx_decode.specs.declared.instr.Instr.{Instr}
 use Rattle.vx_rows.specs.Table.{class_of}
@@ -7,7 +7,10 @@ use Rattle.vx_rows.specs.declared.row.Class.{Class}
 use Rattle.vx_rows.specs.declared.row.Class.TheVariants as class
 use Rattle.vx_flat.specs.Process.{Process, after, stepped}
 use Rattle.vx_flat.specs.State.{Flat}
-use Rattle.vx_flat.specs.Step.{upcoming, performed, performed_as, ecall, step}
+use Rattle.vx_base.specs.declared.machine.Want.TheVariants.{Fetch}
+use Rattle.vx_decode.specs.Decoded.{decoded}
+use Rattle.vx_flat.specs.Memory.{permits}
+use Rattle.vx_flat.specs.Step.{upcoming, meaning, is_executed, performed, performed_as, faulted, ecall, step, word_at_pc}
 use Rattle.vx_flat.specs.declared.end.End.{End}
 use Rattle.vx_flat.specs.declared.upcoming.Upcoming.{Upcoming}
 use Rattle.vx_flat.specs.declared.upcoming.Upcoming.TheVariants.{Denied, Illegal, Instruction}
@@ -29,3 +32,38 @@ stepped-is p e = ap (λ (o : Option End). elim o [ None ↦ after p (step p.stat
 -- the step of a process that asks for a service
 pub ecall-stepped : (p : Process) → p.over ≡ None → is_service (upcoming p.state) ≡ true → after p (ecall p.state) ≡ stepped p
 ecall-stepped p running asks = sym (stepped-is p running ∙ ap (after p) (upcoming-ecall p.state (upcoming p.state) asks))
+
+-- what stands at the pc where it can't be fetched, and where it is this word
+pub upcoming-denied : (s : Flat) → permits s.memory s.pc Fetch ≡ false → upcoming s ≡ Denied
+unfolding upcoming
+upcoming-denied s e = rw e refl
+
+pub upcoming-word : (s : Flat) (word : ℕ) (o : Option Instr) → permits s.memory s.pc Fetch ≡ true → word ≡ word_at_pc s → o ≡ decoded word → upcoming s ≡ meaning word o
+unfolding upcoming
+upcoming-word s word o e at is = rw (e, is, at) refl
+
+-- a step that does this
+pub performed-stepped : (p : Process) (u : Upcoming) → p.over ≡ None → upcoming p.state ≡ u → after p (performed p.state u) ≡ stepped p
+performed-stepped p u running e = sym (stepped-is p running ∙ ap (λ (v : Upcoming). after p (performed p.state v)) e)
+
+-- an instruction that is executed, and one that isn't
+meaning-as : (b : Bool) (word : ℕ) (i : Instr) → is_executed (class_of i.op) ≡ b → meaning word (Some i) ≡ (if b then Instruction i else Illegal word)
+meaning-as b word i e = ap (λ (a : Bool). if a then Instruction i else Illegal word) e
+
+pub meaning-executed : (word : ℕ) (i : Instr) (c : Class) → c ≡ class_of i.op → is_executed c ≡ true → meaning word (Some i) ≡ Instruction i
+meaning-executed word i c is e = meaning-as true word i (ap is_executed (sym is) ∙ e)
+
+pub meaning-refused : (word : ℕ) (i : Instr) (c : Class) → c ≡ class_of i.op → is_executed c ≡ false → meaning word (Some i) ≡ Illegal word
+meaning-refused word i c is e = meaning-as false word i (ap is_executed (sym is) ∙ e)
+
+pub performed-denied : (s : Flat) → performed s Denied ≡ faulted s 12 s.pc
+unfolding performed
+performed-denied s = refl
+
+pub performed-illegal : (s : Flat) (word : ℕ) → performed s (Illegal word) ≡ faulted s 2 word
+unfolding performed
+performed-illegal s word = refl
+
+pub performed-instruction : (s : Flat) (i : Instr) (c : Class) → c ≡ class_of i.op → performed_as c s i ≡ performed s (Instruction i)
+unfolding performed
+performed-instruction s i c is = ap (λ (k : Class). performed_as k s i) is

@@ -1,27 +1,26 @@
-ghost use Rattle.std.specs.Prelude.{◌≡◌, ◌<◌, ◌≤◌, ◌%◌, ◌^◌, ◌++◌, length, true, false, None, IfOk, IsTrue};
-ghost use Rattle.vx_alone.specs.Asking.{asks, class_next, is_service};
+ghost use Rattle.std.specs.Prelude.{◌≡◌, ◌==◌, ◌<◌, ◌≤◌, ◌%◌, ◌^◌, ◌++◌, length, true, false, Some, None, IfOk, IsTrue};
+ghost use Rattle.vx_alone.specs.Asking.{asks, class_next, is_service, is_service_class};
 ghost use Rattle.vx_alone.specs.Turns.{turn_of};
 ghost use Rattle.vx_flat.specs.Process.{after, begun, stepped};
-ghost use Rattle.vx_alone.specs.Operands.{IsAligned, IsPerformable};
+ghost use Rattle.vx_alone.specs.Operands.{IsAligned};
 ghost use Rattle.vx_base.specs.Numbers.{signed};
 ghost use Rattle.vx_decode.specs.Encoded.{IsValid};
 ghost use Rattle.vx_flat.specs.Service.{service, answered, write};
 ghost use Rattle.vx_flat.specs.State.{following, register};
 ghost use Rattle.vx_flat.specs.Step.{meaning, is_executed, upcoming, performed, performed_as, affect, affected, refused, load, load_from, store, store_at, ecall, faulted};
 ghost use Rattle.vx_flat.specs.Step.Outcome.{Next, Exited};
-ghost use Rattle.vx_rows.specs.Table.{class_of};
 ghost use Rattle.vx_scalar.specs.Operands.{NamesRegisters, is_access_width};
 
 use crate::arch::Arch;
-use crate::asking::{asks, class_next};
+use crate::asking::asks;
 use crate::memory::Memory;
 use crate::service::write;
 use crate::turn::Turn;
 use std::alloc::{AllocError, Global};
 use std::marker::Model;
 use vx_base::Fault;
-use vx_decode::{Instr, KnownWords, decoded_is_valid, encode};
-use vx_flat::{Effect, End, Upcoming};
+use vx_decode::{Instr, Known, KnownWords, decoded_is_valid, encode};
+use vx_flat::{Effect, End};
 use vx_image::Image;
 use vx_rows::Class;
 use vx_scalar::{Regs, access_width, loaded, scalar, scalar_address};
@@ -72,30 +71,6 @@ impl Alone {
         })
     }
 
-    /// What stands at the pc.
-    #[tactic(auto, unfolding(vx_flat::specs::Step::upcoming))]
-    pub fn upcoming(&mut self) -> Upcoming
-        ensures value { result ≡ upcoming self.old.state }
-        ensures same { self.new ≡ self.old }
-    {
-        match self.memory.word(self.arch.pc) {
-            None => Upcoming::Denied,
-            Some(word) => meaning(word, self.words.lookup(word)),
-        }
-    }
-
-    /// Does what stands at the pc, in a machine that isn't over.
-    pub fn perform(&mut self, next: Upcoming) -> Turn
-        requires running { self.old.over ≡ None }
-        requires upcoming { next ≡ upcoming self.old.state }
-        ensures stepped { self.new ≡ stepped self.old }
-        ensures turn { result ≡ turn_of self.new.over }
-    {
-        decoded_is_valid();
-        self.act(next);
-        self.turn()
-    }
-
     /// Does what stands at the pc, in a machine that isn't over, unless it asks for a service: `serve` does that. Gives the
     /// class of what stands there, where it is an instruction that is executed.
     pub fn advance(&mut self) -> Option<Class>
@@ -104,13 +79,33 @@ impl Alone {
         ensures waits { asks result ≡ true → self.new ≡ self.old }
         ensures stepped { asks result ≡ false → self.new ≡ stepped self.old }
     {
-        let next = self.upcoming();
-        let class = class_next(next);
-        if asks(class) {
-            return class;
+        decoded_is_valid();
+        let pc = self.arch.pc;
+        let Some(word) = self.memory.word(pc) else {
+            self.fault(12, pc);
+            return None;
+        };
+        let Some(known) = self.words.lookup(word) else {
+            self.fault(2, u64::from(word));
+            return None;
+        };
+        self.advance_by(word, known)
+    }
+
+    /// Does an instruction, whose word this is, unless it asks for a service. Gives its class, where it is executed.
+    fn advance_by(&mut self, word: u32, known: Known) -> Option<Class>
+        requires running { self.old.over ≡ None }
+        requires valid { IsValid known.instr }
+        ensures class { result ≡ class_next (meaning word (Some known.instr)) }
+        ensures waits { asks result ≡ true → self.new ≡ self.old }
+        ensures performed { asks result ≡ false → self.new ≡ after self.old (performed self.old.state (meaning word (Some known.instr))) }
+    {
+        if is_executed(known.class) {
+            self.execute(known.class, known.instr);
+            return Some(known.class);
         }
-        self.perform(next);
-        class
+        self.fault(2, u64::from(word));
+        None
     }
 
     /// Does the service that what stands at the pc asks for.
@@ -186,33 +181,20 @@ impl Alone {
         }
     }
 
-    /// Does what comes next.
-    #[tactic(auto, unfolding(vx_flat::specs::Step::performed))]
-    fn act(&mut self, next: Upcoming)
-        requires running { self.old.over ≡ None }
-        requires registers { IsPerformable next }
-        ensures { self.new ≡ after self.old (performed self.old.state next) }
-    {
-        match next {
-            Upcoming::Denied => self.fault(12, self.arch.pc),
-            Upcoming::Illegal(word) => self.fault(2, u64::from(word)),
-            Upcoming::Instruction(i) => self.execute(i),
-        }
-    }
-
-    /// Does an instruction.
+    /// Does an instruction of a class, unless it asks for a service.
     #[tactic(auto, using(crate::proofs::Performable::names_registers))]
-    fn execute(&mut self, i: Instr)
+    fn execute(&mut self, class: Class, i: Instr)
         requires running { self.old.over ≡ None }
         requires valid { IsValid i }
-        ensures { self.new ≡ after self.old (performed_as (class_of i.op) self.old.state i) }
+        ensures waits { is_service_class class ≡ true → self.new ≡ self.old }
+        ensures performed { is_service_class class ≡ false → self.new ≡ after self.old (performed_as class self.old.state i) }
     {
-        match i.op.class() {
+        match class {
             Class::Arithmetic | Class::Multiply | Class::Divide => self.affect(i),
             Class::Jump | Class::Branch | Class::Fence => self.affect(i),
             Class::Load => self.load(i),
             Class::Store => self.store(i),
-            Class::Ecall => self.ecall(),
+            Class::Ecall => {}
             Class::Ebreak => self.fault(3, 0),
             Class::Csr | Class::Set => self.refuse(i),
             Class::VectorArithmetic(_) => self.refuse(i),
@@ -263,7 +245,7 @@ impl Alone {
     {
         let address = scalar_address(&i, &self.arch.regs);
         let width = access_width(i.op);
-        if address % width == 0 {
+        if is_aligned(address, width) {
             self.load_aligned(i, address, width);
         } else {
             self.fault(4, address);
@@ -296,7 +278,7 @@ impl Alone {
         let address = scalar_address(&i, &self.arch.regs);
         let width = access_width(i.op);
         let value = self.arch.regs.read(i.rs2);
-        if address % width == 0 {
+        if is_aligned(address, width) {
             self.store_aligned(address, width, value);
         } else {
             self.fault(6, address);
@@ -395,13 +377,17 @@ impl Alone {
     }
 }
 
-/// What comes next, of a word and the instruction that it means.
-fn meaning(word: u32, instr: Option<Instr>) -> Upcoming
-    ensures { result ≡ meaning word instr }
+/// Whether an address is a multiple of the width of an access.
+fn is_aligned(address: u64, width: u64) -> bool
+    requires { IsTrue (is_access_width width) }
+    ensures { result ≡ (address % width == 0) }
 {
-    match instr {
-        Some(i) if is_executed(i.op.class()) => Upcoming::Instruction(i),
-        _ => Upcoming::Illegal(word),
+    match width {
+        1 => true,
+        2 => address % 2 == 0,
+        4 => address % 4 == 0,
+        8 => address % 8 == 0,
+        _ => address % width == 0,
     }
 }
 

@@ -83,7 +83,7 @@ impl Memory {
     {
         let place = granting(&self.entries, self.data, address, Want::Load)?;
         self.data = place;
-        Some(number_at(&self.bytes, index_of(place, address), width as usize))
+        Some(number_of_width(&self.bytes, index_of(place, address), width))
     }
 
     /// Stores the low bytes of a number from an address on, least first, where that is let through, and says whether it was.
@@ -98,12 +98,7 @@ impl Memory {
             return false;
         };
         self.data = place;
-        put_number(
-            &mut self.bytes,
-            index_of(place, address),
-            width as usize,
-            value,
-        );
+        put_of_width(&mut self.bytes, index_of(place, address), width, value);
         true
     }
 
@@ -177,6 +172,37 @@ fn index_of(place: usize, address: u64) -> usize
     ensures { result ≡ 4096 * place + address % 4096 }
 {
     PAGE_LEN * place + (address % PAGE_BYTES) as usize
+}
+
+/// The number that so many bytes from an index on are, least first. Each width that an access may have stands as a literal,
+/// so that its bytes are read at once.
+fn number_of_width(bytes: &[u8], at: usize, width: u64) -> u64
+    requires width { IsTrue (is_access_width width) }
+    requires within { at + width ≤ length bytes.now }
+    ensures { result ≡ from_little_endian (take width (drop at bytes.now)) }
+{
+    match width {
+        1 => number_at(bytes, at, 1),
+        2 => number_at(bytes, at, 2),
+        4 => number_at(bytes, at, 4),
+        8 => number_at(bytes, at, 8),
+        _ => number_at(bytes, at, width as usize),
+    }
+}
+
+/// Puts the low bytes of a number from an index on, least first, likewise.
+fn put_of_width(bytes: &mut [u8], at: usize, width: u64, value: u64)
+    requires width { IsTrue (is_access_width width) }
+    requires within { at + width ≤ length bytes.old }
+    ensures { bytes.new ≡ take at bytes.old ++ (little_endian width value ++ drop (at + width) bytes.old) }
+{
+    match width {
+        1 => put_number(bytes, at, 1, value),
+        2 => put_number(bytes, at, 2, value),
+        4 => put_number(bytes, at, 4, value),
+        8 => put_number(bytes, at, 8, value),
+        _ => put_number(bytes, at, width as usize, value),
+    }
 }
 
 /// The number that so many bytes from an index on are, least first.

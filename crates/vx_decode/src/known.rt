@@ -1,78 +1,25 @@
-ghost use Rattle.std.specs.Prelude.{◌≡◌, ◌<◌, length, vec_len};
-ghost use Rattle.vx_decode.specs.Decoded.{decoded};
+ghost use Rattle.std.specs.Prelude.{◌≡◌};
+ghost use Rattle.vx_rows.specs.Table.{class_of};
 
-use crate::decoder::decode;
 use crate::instr::Instr;
-use std::alloc::{AllocError, Global};
-use std::marker::Model;
+use vx_rows::Class;
 
-/// How many words the table keeps at once.
-const PLACES: usize = 4096;
-
-/// A word and the instruction that it means.
+/// An instruction with its class, which its operation says.
 #[derive(Clone, Copy, Debug)]
-struct Entry {
-    word: u32,
-    instr: Option<Instr>,
-    ghost meaning: { instr ≡ decoded word },
+pub struct Known {
+    pub instr: Instr,
+    pub class: Class,
+    ghost class_is: { class ≡ class_of instr.op },
 }
 
-impl Entry {
-    /// The entry of a word.
-    fn of(word: u32) -> Entry
-        ensures { result.word ≡ word }
+impl Known {
+    /// An instruction with its class.
+    pub(crate) fn of(instr: Instr) -> Known
+        ensures { result.instr ≡ instr }
     {
-        Entry {
-            word,
-            instr: decode(word),
+        Known {
+            instr,
+            class: instr.op.class(),
         }
     }
-
-    /// Makes it the entry of a word, which is decoded where it is another one's.
-    fn turn_to(&mut self, word: u32)
-        ensures { self.new.word ≡ word }
-    {
-        if self.word != word {
-            *self = Entry::of(word);
-        }
-    }
-}
-
-/// Words that were decoded, each at the one place that its bits name, where the last word stands that was looked up there.
-/// What a word means never changes, so a caller sees nothing of it but the time that it saves.
-#[derive(Debug, Drop)]
-pub struct KnownWords {
-    entries: Vec<Entry>,
-}
-
-impl Model for KnownWords {
-    ghost Value = { Unit {0} };
-
-    ghost view = { λ k. tt };
-
-    ghost invariant = { λ k. vec_len k.entries ≡ 4096 };
-}
-
-impl KnownWords {
-    /// A table that takes its memory here, and none later.
-    pub fn new(alloc: Global) -> Result<KnownWords, AllocError> {
-        let entries = vec![in alloc; Entry::of(0); PLACES]?;
-        Ok(KnownWords { entries })
-    }
-
-    /// The instruction that a word means, as `decode` gives it. Decodes the word only where its place holds another.
-    pub fn lookup(&mut self, word: u32) -> Option<Instr>
-        ensures { result ≡ decoded word }
-    {
-        let entry = &mut self.entries[place_of(word)];
-        entry.turn_to(word);
-        entry.instr
-    }
-}
-
-/// The place of a word in the table: the high bits of its product with an odd number near 2^32 divided by the golden ratio.
-fn place_of(word: u32) -> usize
-    ensures { result < 4096 }
-{
-    (word.wrapping_mul(0x9e37_79b1) >> 20) as usize
 }

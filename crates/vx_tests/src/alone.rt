@@ -13,10 +13,7 @@ pub const HI: [u8; 40] = [
 fn a_process_writes_a_text_and_exits(rt: HostRuntime) -> Result<(), Fail> {
     let mut machine = Alone::boot(rt.alloc(), &raw_image(rt.alloc(), &HI)?)?;
     for _ in 0..8 {
-        let next = machine.upcoming();
-        if machine.over().is_none() {
-            assert_eq!(rt; machine.perform(next), Turn::Next);
-        }
+        assert_eq!(rt; machine.step(), Turn::Next);
     }
     for _ in 0..2 {
         assert_eq!(rt; machine.step(), Turn::Exited(0));

@@ -20,8 +20,8 @@ returns-clause-number c =
     let whole : length bytes ≡ 4096 * length entries = c.self.invariant.whole in
     let room = ends_on_page width address c.requires.width c.requires.aligned c.ranges.address.fits in
     let read = bytes_on_page entries c.self.invariant.rising bytes (page_of address) k place width (address % 4096) address (omega arith) room.0 room.1 (omega (arith, room.0)) in
-    let value : c.number_at.result ≡ from_little_endian (take width (drop (4096 * k + address % 4096) bytes)) =
-    c.number_at.ensures ∙ ap (λ (bs : List ℕ). from_little_endian (take width (drop c.index_of.result bs))) c.deref-2.ensures.value
+    let value : c.number_of_width.result ≡ from_little_endian (take width (drop (4096 * k + address % 4096) bytes)) =
+    c.number_of_width.ensures ∙ ap (λ (bs : List ℕ). from_little_endian (take width (drop c.index_of.result bs))) c.deref-2.ensures.value
     ∙ ap (λ (i : ℕ). from_little_endian (take width (drop i bytes))) c.index_of.ensures in (
       ap (λ (m : Memory). permits m address Load) (sym c.self.view_is) ∙ granted.permitted bytes,
       value ∙ ap from_little_endian (sym read) ∙ ap (λ (m : Memory). from_little_endian (bytes_at m address width)) c.self.view_is,

@@ -24,9 +24,9 @@ returns-clause-memory c =
     let room = ends_on_page width address c.requires.width c.requires.aligned c.ranges.address.fits in
     let count : length values ≡ width = length-little_endian width c.args.value in
     let put = put_on_page entries c.self.invariant.rising (page_of address) k place values bytes (address % 4096) address (omega arith) (omega (arith, room.0, count)) (omega (arith, room.1, count)) (omega (arith, room.0, count)) in
-    let written : c.put_number.new.bytes ≡ take (4096 * k + address % 4096) bytes ++ (values ++ drop (4096 * k + address % 4096 + length values) bytes) =
-    rw (count, sym c.index_of.ensures, sym c.deref_mut.ensures.value) c.put_number.ensures in
-    let kept : length c.put_number.new.bytes ≡ vec_len c.self.inside.bytes = omega (arith, c.put_number.auto.bytes, c.deref_mut.ensures.len) in
-    ap (λ (bs : List ℕ). pages_of entries bs) (with_items_is c.self.inside.bytes c.put_number.new.bytes kept ∙ written)
+    let written : c.put_of_width.new.bytes ≡ take (4096 * k + address % 4096) bytes ++ (values ++ drop (4096 * k + address % 4096 + length values) bytes) =
+    rw (count, sym c.index_of.ensures, sym c.deref_mut.ensures.value) c.put_of_width.ensures in
+    let kept : length c.put_of_width.new.bytes ≡ vec_len c.self.inside.bytes = omega (arith, c.put_of_width.auto.bytes, c.deref_mut.ensures.len) in
+    ap (λ (bs : List ℕ). pages_of entries bs) (with_items_is c.self.inside.bytes c.put_of_width.new.bytes kept ∙ written)
     ∙ sym put
     ∙ ap (λ (m : Memory). put_bytes m address values) c.self.view_is
