@@ -2,6 +2,7 @@
 -- and 16. Elements that take no part stay as they are.
 use Rattle.std.specs.Prelude.{ℕ, zero, suc, ◌+◌, ◌%◌, ◌^◌, Bool, false, ◌==◌, ◌&&◌, ◌||◌, nat_lt, List, fold, length, get_or, if◌then◌else◌, Option, Some, None, option_map}
 use Rattle.vx_bits.specs.declared.saturation.Sat.{Sat}
+use Rattle.vx_packed.specs.Joined.{some_below}
 use Rattle.vx_vstate.specs.Registers.{with_element}
 use Rattle.vx_vector.specs.Lists.{Lists, active_elements, packed}
 use Rattle.vx_vector.specs.Numbers.{plain}
@@ -30,26 +31,28 @@ becomes_by (Tell f) r i = None
 abbrev pub becomes : Reading → ℕ → Option Sat
 becomes r i = becomes_by (rule_of r.family) r i
 
--- the words after element i
-abbrev pub after_element : Reading → ℕ → List ℕ → List ℕ
-after_element r i words = elim (becomes r i) [ None ↦ words | Some s ↦ with_element r.at.vlen words r.places.vd (destination_width r) i s.value ]
+-- the words with what became of element i
+abbrev pub with_result : Reading → (i : ℕ) → Option Sat → List ℕ → List ℕ
+with_result r i None words = words
+with_result r i (Some s) words = with_element r.at.vlen words r.places.vd (destination_width r) i s.value
 
 -- the words after the elements below n
-unfoldable pub after_elements : Reading → ℕ → List ℕ
+unfoldable pub after_elements : Reading → (n : ℕ) → List ℕ
 after_elements r zero = r.words
-after_elements r (suc n) = after_element r n (after_elements r n)
+after_elements r (suc n) = with_result r n (becomes r n) (after_elements r n)
 
--- an element below n saturated
-unfoldable pub saturated_below : Reading → ℕ → Bool
-saturated_below r zero = false
-saturated_below r (suc n) = saturated_below r n || elim (becomes r n) [ None ↦ false | Some s ↦ s.sat ]
-
--- the words after the instruction, and whether it saturated
+-- the words after the instruction
 abbrev pub words_after : Reading → List ℕ
 words_after r = after_elements r (count_of r)
 
+-- what became of an element saturated
+abbrev pub has_saturated : Option Sat → Bool
+has_saturated None = false
+has_saturated (Some s) = s.sat
+
+-- some element saturated
 abbrev pub saturates : Reading → Bool
-saturates r = saturated_below r (count_of r)
+saturates r = some_below (count_of r) (λ i. has_saturated (becomes r i))
 
 -- what a rule puts into the integer register rd, where it does
 abbrev pub told_by : Rule → Reading → Option ℕ

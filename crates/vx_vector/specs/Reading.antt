@@ -60,11 +60,20 @@ module _ (r : Reading) where
   abbrev pub mask_bit : ℕ → Bool
   mask_bit i = is_set (element_of 0 1 i)
 
+  -- how many elements an operand has: one, as many as whole registers hold, or VLMAX
+  abbrev pub elements_in : Operand → ℕ
+  elements_in Absent = 0
+  elements_in Element = 1
+  elements_in WideElement = 1
+  elements_in operand =
+      let whole = whole_registers operand in
+      if whole == 0 then vlmax r.at.vlen r.at.vtype else whole * r.at.vlen / width_of operand sew_of
+
   -- how many elements the instruction has: vl, or as many as whole registers hold
   abbrev pub count_of : ℕ
   count_of =
-      let whole = whole_registers (operands_of r.family).destination in
-      if whole == 0 then r.at.vl else whole * r.at.vlen / destination_width
+      let destination = (operands_of r.family).destination in
+      if whole_registers destination == 0 then r.at.vl else elements_in destination
 
   -- its elements aren't masked: bit 25 is 1, or the row reads v0 as an operand
   abbrev pub is_unmasked : Bool
@@ -92,13 +101,6 @@ module _ (r : Reading) where
     d = element_of r.places.vd destination_width i;
     m = not r.places.vm && mask_bit i;
   }
-
-  -- how many elements an operand has that isn't made of whole registers
-  abbrev pub elements_in : Operand → ℕ
-  elements_in Absent = 0
-  elements_in Element = 1
-  elements_in WideElement = 1
-  elements_in operand = vlmax r.at.vlen r.at.vtype
 
   -- the elements of an operand that begins at a register
   abbrev pub elements_of : Operand → (register : ℕ) → List ℕ

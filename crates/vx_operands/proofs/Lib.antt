@@ -1,0 +1,3 @@
+pub mod Even
+pub mod Merging
+pub mod Places

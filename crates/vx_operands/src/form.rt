@@ -1,0 +1,28 @@
+ghost use Rattle.std.specs.Prelude.{◌≡◌, List, ℕ};
+ghost use Rattle.vx_operands.specs.Forms.{reading};
+ghost use Rattle.vx_vector.specs.Reading.{is_unmasked};
+ghost use Rattle.vx_vstate.specs.declared.setting.Setting.{Setting};
+
+use vx_rows::{Family, First, Vm};
+use vx_vector::Places;
+
+/// What a row of vector arithmetic says of an instruction: what it computes, what stands in the place of `vs1`, and what
+/// bit 25 is for.
+#[derive(Clone, Copy, PartialEq, Eq, Debug)]
+pub struct Form {
+    pub family: Family,
+    pub first: First,
+    pub vm: Vm,
+}
+
+/// Whether all elements take part, whatever the mask in `v0` is.
+#[inline(always)]
+pub fn is_unmasked(form: Form, regs: &Places) -> bool
+    ensures { (at : Setting) (words : List ℕ) → result ≡ is_unmasked (reading form at regs.now words) }
+{
+    match form.vm {
+        Vm::Any => regs.vm,
+        Vm::Zero => true,
+        Vm::One => true,
+    }
+}
