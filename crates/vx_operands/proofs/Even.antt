@@ -1,5 +1,6 @@
 -- Rows whose operands all have elements of SEW.
-use Rattle.std.proofs.Common.{◌≡◌, ℕ, zero, suc, ◌+◌, ◌-◌, ◌*◌, ◌/◌, ◌%◌, ◌^◌, ◌<◌, ◌≤◌, Bool, true, false, not, ◌&&◌, ◌||◌, IsTrue, nat_eq, if◌then◌else◌, refl, sym, ap, ◌∙◌, subst, ⊎_elim, arith, eq-eqb}
+use Rattle.std.proofs.Common.{◌≡◌, ℕ, zero, suc, ◌+◌, ◌-◌, ◌*◌, ◌/◌, ◌%◌, ◌^◌, ◌<◌, ◌≤◌, Bool, true, false, not, ◌&&◌, ◌||◌, IsTrue, nat_eq, if◌then◌else◌, length, refl, sym, ap, ◌∙◌, subst, ⊎_elim, arith, eq-eqb}
+use Rattle.std.proofs.lemmas.List.FromFn.{length-range_with_len}
 use Rattle.std.proofs.lemmas.Bool.{cases_Bool, false≢true, true≢false, and_parts}
 use Rattle.vx_bits.specs.Width.{is_width}
 use Rattle.vx_packed.specs.Joined.{lane}
@@ -14,17 +15,17 @@ use Rattle.vx_rows.specs.declared.row.First.{First}
 use Rattle.vx_rows.specs.declared.row.First.TheVariants.{Vector, Integer, Signed, Unsigned, Fixed}
 use Rattle.vx_rows.specs.declared.row.Vm.{Vm}
 use Rattle.vx_rows.specs.declared.row.Vm.TheVariants.{Any, Zero, One}
-use Rattle.vx_vstate.specs.Registers.{word_at, place_of, words_of_all, element, element_word}
+use Rattle.vx_vstate.specs.Registers.{word_at, place_of, words_of_register, words_of_all, element, element_word}
 use Rattle.vx_vstate.specs.Vtype.{vill, vlmax}
 use Rattle.vx_vstate.specs.declared.setting.Setting.{Setting}
-use Rattle.vx_vector.specs.Laws.{IsPlaced, per_word}
+use Rattle.vx_vector.specs.Laws.{IsPlaced, is_absent, per_word}
 use Rattle.vx_vector.specs.Numbers.{is_set}
 use Rattle.vx_vector.specs.Reading.{Reading, sew_of, destination_width, vs2_width, vs1_width, elements_in, count_of, whole_registers, is_unmasked, mask_bit, second_operand, numbers_at}
-use Rattle.vx_vector.specs.Words.{vs1_operand, registers_of_operand}
+use Rattle.vx_vector.specs.Words.{vs1_operand, registers_of_operand, places_of_operand, destination_words}
 use Rattle.vx_operands.specs.Lanes.{AreLanes, AreMaskBits, AreSources, is_single, is_even, numbers_of}
 use Rattle.vx_operands.proofs.Places.{even_element, first_word, in_place}
 
-single_is : (o : Operand) → IsTrue (is_single o) → o ≡ Single
+pub single_is : (o : Operand) → IsTrue (is_single o) → o ≡ Single
 single_is Single h = refl
 single_is other h = absurd (false≢true h)
 
@@ -72,6 +73,15 @@ placed_word r o register w e placed width l =
     let within = p.within (w * (64 / sew_of r)) below in
     in_place register (registers_of_operand r Single) w (r.at.vlen / 64) p.room (subst (λ n. n < registers_of_operand r Single * (r.at.vlen / 64)) at within)
 
+-- how many words the destination has
+pub words_of_group : (r : Reading) (o : Operand) (register : ℕ) → IsTrue (not (is_absent o)) → length (places_of_operand r o register) ≡ registers_of_operand r o * words_of_register r.at.vlen
+words_of_group r Absent register h = absurd (false≢true h)
+words_of_group r other register h = length-range_with_len (place_of r.at.vlen register 0) (registers_of_operand r other * words_of_register r.at.vlen)
+
+pub destination_place : (r : Reading) (w : ℕ) → IsTrue (not (is_absent (operands_of r.family).destination)) → IsPlaced r (operands_of r.family).destination r.places.vd → w < length (destination_words r) → place_of r.at.vlen r.places.vd w < words_of_all r.at.vlen
+destination_place r w h placed l =
+    in_place r.places.vd (registers_of_operand r (operands_of r.family).destination) w (r.at.vlen / 64) placed.room (subst (λ n. w < n) (words_of_group r (operands_of r.family).destination r.places.vd h) l)
+
 pub vs1_is : (r : Reading) → r.first ≡ Vector → vs1_operand r ≡ (operands_of r.family).vs1
 vs1_is r e = ap (λ (f : First). elim f [ Vector ↦ (operands_of r.family).vs1 | Integer ↦ Absent | Signed ↦ Absent | Unsigned ↦ Absent | Fixed ↦ Absent ]) e
 
@@ -88,12 +98,12 @@ masked r h = vm_false r.vm r.places.vm h
 pub mask_are : (r : Reading) (w n mask : ℕ) → n ≡ per_word r → AreLanes 1 mask n (λ k. element r.at.vlen r.words 0 1 (w * n + k)) → AreMaskBits r w mask
 mask_are r w n mask e h = subst (λ m. (k : ℕ) → k < m → nat_eq (lane 1 mask k) 1 ≡ mask_bit r (w * m + k)) e (λ k l. ap (λ x. nat_eq x 1) (h k l))
 
-zero_lane : (k : ℕ) → nat_eq (lane 1 0 k) 1 ≡ false
+pub zero_lane : (k : ℕ) → nat_eq (lane 1 0 k) 1 ≡ false
 zero_lane k = let e : lane 1 0 k ≡ 0 = grind arith in ap (λ x. nat_eq x 1) e
 
 -- ---- the operands of a word's elements
 
-pub sources_are : (r : Reading) (w sew : ℕ) (from : Sources) → IsEvenOf r.first (operands_of r.family) → IsTrue (is_width (sew_of r)) → sew ≡ sew_of r → from.a ≡ word_at r.at.vlen r.words r.places.vs2 w → AreLanes sew from.b (64 / sew) (λ k. second_operand r (w * (64 / sew) + k)) → from.d ≡ word_at r.at.vlen r.words r.places.vd w → (r.places.vm ≡ false → AreLanes 1 from.m (64 / sew) (λ k. element r.at.vlen r.words 0 1 (w * (64 / sew) + k))) → (r.places.vm ≡ true → from.m ≡ 0) → AreSources r w from
+pub sources_are : (r : Reading) (w sew : ℕ) (from : Sources) → IsEvenOf r.first (operands_of r.family) → IsTrue (is_width (sew_of r)) → sew ≡ sew_of r → from.a ≡ word_at r.at.vlen r.words r.places.vs2 w → AreLanes sew from.b (64 / sew) (λ k. second_operand r (w * (64 / sew) + k)) → from.d ≡ word_at r.at.vlen r.words r.places.vd w → (r.places.vm ≡ false → AreLanes 1 from.m (64 / sew) (λ k. element r.at.vlen r.words 0 1 (w * (64 / sew) + k))) → (r.places.vm ≡ true → from.m ≡ 0) → AreSources r w (even_packing (sew_of r)) from
 sources_are r w sew from even width e a b d some none =
     subst (λ n. (k : ℕ) → k < n → numbers_of (sew_of r) r.at.vxrm (lane_of (even_packing (sew_of r)) from k) ≡ numbers_at r (w * n + k)) (sym (ap (λ n. 64 / n) (destination_even r even)))
     (λ k l. λ i. record {

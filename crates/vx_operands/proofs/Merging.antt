@@ -1,5 +1,5 @@
 -- A word of the destination by its lanes: active elements are new, and others old.
-use Rattle.std.proofs.Common.{◌≡◌, ℕ, zero, suc, ◌+◌, ◌-◌, ◌*◌, ◌/◌, ◌%◌, ◌^◌, ◌<◌, ◌≤◌, Bool, true, false, not, ◌&&◌, ◌||◌, IsTrue, nat_eq, leb, ltb, if◌then◌else◌, refl, sym, ap, ◌∙◌, subst, ⊎_elim, arith, eq-eqb, le-ltb, mod-eq_of_lt}
+use Rattle.std.proofs.Common.{◌≡◌, ℕ, zero, suc, ◌+◌, ◌-◌, ◌*◌, ◌/◌, ◌%◌, ◌^◌, ◌<◌, ◌≤◌, Bool, true, false, not, ◌&&◌, ◌||◌, IsTrue, nat_eq, leb, ltb, if◌then◌else◌, refl, sym, ap, ◌∙◌, subst, ⊎_elim, arith, eq-eqb, le-ltb, mod-eq_of_lt, mod-lt, pow_pos}
 use Rattle.std.specs.Int.{bit_at}
 use Rattle.std.proofs.Math.Nat.{mod-mod}
 use Rattle.std.proofs.lemmas.Bool.{cases_Bool, false≢true}
@@ -7,15 +7,18 @@ use Rattle.std.proofs.lemmas.Nat.Bits.{bit_at_ones}
 use Rattle.vx_bits.specs.Width.{is_width}
 use Rattle.vx_bits.specs.declared.saturation.Sat.{Sat}
 use Rattle.vx_packed.specs.Joined.{lane, joined, some_below}
-use Rattle.vx_packed.specs.Made.{merged, truth}
+use Rattle.vx_packed.specs.Made.{merged, truth, made, lane_of}
 use Rattle.vx_packed.specs.declared.elements.Made.{Made}
+use Rattle.vx_packed.specs.declared.elements.Packing.{Packing}
+use Rattle.vx_packed.specs.declared.elements.Sources.{Sources}
 use Rattle.vx_vstate.specs.Registers.{word_at, element}
 use Rattle.vx_vector.specs.Arithmetic.{given, becomes, becomes_by, has_saturated}
 use Rattle.vx_vector.specs.Laws.{value_after, element_after, per_word, made_word, word_saturates}
-use Rattle.vx_vector.specs.Reading.{Reading, destination_width, element_of, count_of, is_unmasked, mask_bit, is_active, numbers_at}
+use Rattle.vx_vector.specs.Numbers.{plain}
+use Rattle.vx_vector.specs.Reading.{Reading, sew_of, destination_width, element_of, count_of, is_unmasked, mask_bit, is_active, numbers_at}
 use Rattle.vx_vector.specs.Rules.{Rule, rule_of}
 use Rattle.vx_vector.specs.Rules.Rule.{Each, Index, Permute, Reduce, Pack, Put, Tell}
-use Rattle.vx_operands.specs.Lanes.{is_each, answer_by, answer, index_at, AreMaskBits, AreMade}
+use Rattle.vx_operands.specs.Lanes.{is_each, answer_by, answer, index_at, numbers_of, AreMaskBits, AreSources, AreMade}
 use Rattle.vx_operands.proofs.Places.{filled, per_word-le, even_element}
 
 -- ---- the laws of elements that are joined
@@ -156,3 +159,43 @@ merged_sat r w width lanes made each e active new =
     ap (λ b. b && nat_eq (lane 1 made.sats k) 1) (active.is k l)
     ∙ both (is_active r i) (nat_eq (lane 1 made.sats k) 1) (answer r.family (numbers_at r i)).sat (new.sats k l)
     ∙ sym (saturates_is r i each))
+
+-- ---- new elements lane by lane
+
+pub made_are : Element → (r : Reading) (w : ℕ) (at : Packing) (from : Sources) (new : Made) → at.width ≡ destination_width r → at.count ≡ per_word r → AreSources r w at from → new ≡ made at from (λ l. answer r.family (numbers_of (sew_of r) r.at.vxrm l)) → AreMade r w new
+made_are element r w at from new width count sources is = record {
+  value = λ k l active. value k l;
+  sats = λ k l active. saturates k l;
+}
+  where
+    answers : (k : ℕ) → k < per_word r → answer r.family (numbers_of (sew_of r) r.at.vxrm (lane_of at from k)) ≡ answer r.family (numbers_at r (index_at r w k))
+    answers k l = ap (λ n. answer r.family n) (sources k l)
+
+    inside : (k : ℕ) → k < per_word r → k < at.count
+    inside k l = subst (λ n. k < n) (sym count) l
+
+    value : (k : ℕ) → k < per_word r → lane (destination_width r) new.value k ≡ (answer r.family (numbers_at r (index_at r w k))).value % 2 ^ destination_width r
+    value k l =
+        ap (λ x. lane x new.value k) (sym width)
+        ∙ ap (λ (m : Made). lane at.width m.value k) is
+        ∙ element at.width at.count (λ k. (answer r.family (numbers_of (sew_of r) r.at.vxrm (lane_of at from k))).value) k (inside k l)
+        ∙ (λ i. (answers k l i).value % 2 ^ width i)
+
+    saturates : (k : ℕ) → k < per_word r → nat_eq (lane 1 new.sats k) 1 ≡ (answer r.family (numbers_at r (index_at r w k))).sat
+    saturates k l =
+        ap (λ (m : Made). nat_eq (lane 1 m.sats k) 1) is
+        ∙ ap (λ x. nat_eq x 1) (element 1 at.count (λ k. truth (answer r.family (numbers_of (sew_of r) r.at.vxrm (lane_of at from k))).sat) k (inside k l))
+        ∙ truth_bit (answer r.family (numbers_of (sew_of r) r.at.vxrm (lane_of at from k))).sat
+        ∙ (λ i. (answers k l i).sat)
+
+zero_lane : (k : ℕ) → nat_eq (lane 1 0 k) 1 ≡ false
+zero_lane k = let e : lane 1 0 k ≡ 0 = grind arith in ap (λ x. nat_eq x 1) e
+
+-- new elements that are those of a word
+pub copied_are : (r : Reading) (w new : ℕ) (f : ℕ → ℕ) → ((k : ℕ) → k < per_word r → lane (destination_width r) new k ≡ f k) → ((k : ℕ) → answer r.family (numbers_at r (index_at r w k)) ≡ plain (f k)) → AreMade r w (record { value = new; sats = 0 })
+copied_are r w new f lanes same = record {
+  value = λ k l active.
+      let low = mod-lt (new / 2 ^ (k * destination_width r)) (pow_pos (destination_width r)) in
+      sym (mod-eq_of_lt low) ∙ ap (λ x. x % 2 ^ destination_width r) (lanes k l) ∙ sym (ap (λ (s : Sat). s.value % 2 ^ destination_width r) (same k));
+  sats = λ k l active. zero_lane k ∙ sym (ap (λ (s : Sat). s.sat) (same k));
+}

@@ -66,6 +66,9 @@ part_small w count width place p some h l =
     let rows = mul-le-mul_left (w * count) some_width in
     omega arith
 
+pub word_small : (w place p n : ℕ) → place + w < 32 * p → p ≤ 32 → n ≤ 64 → w * n < 65536
+word_small w place p n h l m = let most = mul-le-mul_left w m in omega arith
+
 pub registers_small : (vlen : ℕ) → IsTrue (is_register_length vlen) → vlen / 64 ≤ 32
 registers_small vlen h = grind (arith, nat_tests, h)
 

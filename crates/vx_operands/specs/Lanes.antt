@@ -1,20 +1,23 @@
 -- Elements of operands as lanes of words, and the elements that become.
-use Rattle.std.specs.Prelude.{◌≡◌, ℕ, ◌+◌, ◌*◌, ◌/◌, ◌%◌, ◌^◌, ◌<◌, Bool, true, false, ◌==◌, ◌&&◌}
+use Rattle.std.specs.Prelude.{◌≡◌, ℕ, ◌+◌, ◌*◌, ◌/◌, ◌%◌, ◌^◌, ◌<◌, Bool, true, false, not, ◌==◌, ◌&&◌}
 use Rattle.vx_bits.specs.declared.saturation.Sat.{Sat}
 use Rattle.vx_packed.specs.Joined.{lane}
-use Rattle.vx_packed.specs.Made.{even_packing, lane_of}
+use Rattle.vx_packed.specs.Made.{lane_of}
 use Rattle.vx_packed.specs.declared.elements.Lane.{Lane}
 use Rattle.vx_packed.specs.declared.elements.Made.{Made}
+use Rattle.vx_packed.specs.declared.elements.Packing.{Packing}
 use Rattle.vx_packed.specs.declared.elements.Sources.{Sources}
 use Rattle.vx_rows.specs.declared.family.Family.{Family}
 use Rattle.vx_rows.specs.declared.family.Operand.{Operand}
-use Rattle.vx_rows.specs.declared.family.Operand.TheVariants.{Single}
+use Rattle.vx_rows.specs.declared.family.Operand.TheVariants.{Single, Double, Half, Quarter, Eighth}
 use Rattle.vx_rows.specs.declared.family.Operands.{Operands}
 use Rattle.vx_rows.specs.declared.row.First.{First}
 use Rattle.vx_rows.specs.declared.row.First.TheVariants as first
+use Rattle.vx_rows.specs.declared.row.Vm.{Vm}
+use Rattle.vx_rows.specs.declared.row.Vm.TheVariants as vm
 use Rattle.vx_vector.specs.Laws.{per_word}
 use Rattle.vx_vector.specs.Numbers.{Numbers, plain}
-use Rattle.vx_vector.specs.Reading.{Reading, destination_width, is_active, numbers_at, mask_bit, sew_of}
+use Rattle.vx_vector.specs.Reading.{Reading, destination_width, is_active, numbers_at, mask_bit, sew_of, vs2_width, whole_registers}
 use Rattle.vx_vector.specs.Rules.{Rule, rule_of}
 use Rattle.vx_vector.specs.Rules.Rule.{Each, Index, Permute, Reduce, Pack, Put, Tell}
 
@@ -48,6 +51,32 @@ abbrev pub is_even : First → Operands → Bool
 is_even first.Vector operands = is_single operands.destination && is_single operands.vs2 && is_single operands.vs1
 is_even other operands = is_single operands.destination && is_single operands.vs2
 
+-- an operand is a group of elements of a width of its own, and so are the registers of a row
+abbrev pub is_group : Operand → Bool
+is_group Single = true
+is_group Double = true
+is_group Half = true
+is_group Quarter = true
+is_group Eighth = true
+is_group other = false
+
+abbrev pub are_groups : First → Operands → Bool
+are_groups first.Vector operands = is_group operands.destination && is_group operands.vs2 && is_single operands.vs1
+are_groups other operands = is_group operands.destination && is_group operands.vs2
+
+-- whole registers, without a mask
+abbrev pub is_whole : Operands → Vm → Bool
+is_whole operands vm.One = not (whole_registers operands.destination == 0) && whole_registers operands.destination == whole_registers operands.vs2
+is_whole operands other = false
+
+-- elements of a width, so many, fill a word or a half, a quarter, .. of one
+abbrev pub FillsPart : (width count : ℕ) → Type 0
+FillsPart width count = 64 / (width * count) * (width * count) ≡ 64
+
+-- how the elements of a row's operands stand in words: as many as make a word of the destination
+abbrev pub packing_of : Reading → Packing
+packing_of r = record { count = per_word r; width = destination_width r; a = vs2_width r; b = sew_of r }
+
 module _ (r : Reading) (w : ℕ) where
   -- the index of the element at a lane of word w of the destination
   abbrev pub index_at : (k : ℕ) → ℕ
@@ -58,8 +87,8 @@ module _ (r : Reading) (w : ℕ) where
   AreMaskBits bits = (k : ℕ) → k < per_word r → (lane 1 bits k == 1) ≡ mask_bit r (index_at k)
 
   -- the numbers at the lanes of some words are those at the elements of word w
-  abbrev pub AreSources : Sources → Type 0
-  AreSources from = (k : ℕ) → k < per_word r → numbers_of (sew_of r) r.at.vxrm (lane_of (even_packing (sew_of r)) from k) ≡ numbers_at r (index_at k)
+  abbrev pub AreSources : Packing → Sources → Type 0
+  AreSources at from = (k : ℕ) → k < per_word r → numbers_of (sew_of r) r.at.vxrm (lane_of at from k) ≡ numbers_at r (index_at k)
 
   -- the active elements have become what they must
   pub record AreMade (made : Made) : Type 0 where

@@ -1,8 +1,10 @@
 ghost use Rattle.std.specs.Prelude.{◌≡◌, List, ℕ};
 ghost use Rattle.vx_operands.specs.Forms.{reading};
+ghost use Rattle.vx_vector.specs.Numbers.{plain};
 ghost use Rattle.vx_vector.specs.Reading.{is_unmasked};
 ghost use Rattle.vx_vstate.specs.declared.setting.Setting.{Setting};
 
+use vx_bits::Sat;
 use vx_rows::{Family, First, Vm};
 use vx_vector::Places;
 
@@ -24,5 +26,16 @@ pub fn is_unmasked(form: Form, regs: &Places) -> bool
         Vm::Any => regs.vm,
         Vm::Zero => true,
         Vm::One => true,
+    }
+}
+
+/// A value that wasn't clipped.
+#[inline(always)]
+pub fn plain(value: u64) -> Sat
+    ensures { result ≡ plain value }
+{
+    Sat {
+        value,
+        sat: false,
     }
 }

@@ -1,15 +1,16 @@
-ghost use Rattle.std.specs.Prelude.{IsTrue, true, false, ◌≡◌, ℕ, ◌+◌, ◌-◌, ◌*◌, ◌/◌, ◌^◌, ◌<◌, ◌≤◌, List};
+ghost use Rattle.std.specs.Prelude.{IsTrue, true, false, ◌≡◌, ℕ, ◌+◌, ◌-◌, ◌*◌, ◌/◌, ◌^◌, ◌<◌, ◌≤◌, List, length};
 ghost use Rattle.vx_bits.specs.Width.{is_width};
 ghost use Rattle.vx_operands.specs.Forms.{reading};
-ghost use Rattle.vx_operands.specs.Lanes.{AreLanes, AreMade, AreMaskBits, AreSources, is_each, is_even};
+ghost use Rattle.vx_operands.specs.Lanes.{AreMade, AreMaskBits, answer, is_each, is_even, numbers_of};
+ghost use Rattle.vx_packed.specs.Made.{even_packing, made};
 ghost use Rattle.vx_packed.specs.declared.elements.Made.{Made};
 ghost use Rattle.vx_packed.specs.declared.elements.Sources.{Sources};
 ghost use Rattle.vx_rows.specs.Families.{operands_of};
 ghost use Rattle.vx_vector.specs.Laws.{IsSound, made_word, per_word, word_saturates};
 ghost use Rattle.vx_vector.specs.Reading.{Reading, sew_of, destination_width, count_of, is_unmasked};
 ghost use Rattle.vx_vector.specs.Rules.{rule_of};
-ghost use Rattle.vx_vector.specs.Words.{registers_of_operand};
-ghost use Rattle.vx_vstate.specs.Registers.{words_of_register, word_at};
+ghost use Rattle.vx_vector.specs.Words.{destination_words};
+ghost use Rattle.vx_vstate.specs.Registers.{word_at};
 ghost use Rattle.vx_vstate.specs.declared.setting.Setting.{Setting};
 
 use crate::form::{Form, is_unmasked};
@@ -63,7 +64,7 @@ pub fn merged_word(form: Form, at: &Setting, regs: &Places, width: u32, count: u
 }
 
 /// Word `w` of the destination of a row whose operands all have elements of SEW. `f` gets the words at their places, and
-/// gives the new elements.
+/// gives the new elements, in lanes of SEW.
 #[inline(always)]
 pub fn even_word<S: WordFile, F: FnOnce(Sources) -> Made>(form: Form, file: &S, at: &Setting, regs: &Places, sew: u32, w: u32, f: F) -> Word
     requires same { S.vlen file.now ≡ at.now.vlen }
@@ -72,13 +73,14 @@ pub fn even_word<S: WordFile, F: FnOnce(Sources) -> Made>(form: Form, file: &S, 
     requires even { IsTrue (is_even form.first (operands_of form.family)) }
     requires sew { sew ≡ sew_of (reading form at.now regs.now (S.words file.now)) }
     requires width { IsTrue (is_width sew) }
-    requires within { w < registers_of_operand (reading form at.now regs.now (S.words file.now)) (operands_of form.family).destination * words_of_register at.now.vlen }
+    requires within { w < length (destination_words (reading form at.now regs.now (S.words file.now))) }
     requires callable { (from : Sources) → F.pre f from }
-    requires makes { (from : Sources) (made : Made) → AreSources (reading form at.now regs.now (S.words file.now)) w from → F.post f from made → AreMade (reading form at.now regs.now (S.words file.now)) w made }
+    requires makes { (from : Sources) (new : Made) → F.post f from new → new ≡ made (even_packing sew) from (λ l. answer form.family (numbers_of sew at.now.vxrm l)) }
     ensures value { result.value ≡ made_word (reading form at.now regs.now (S.words file.now)) w }
     ensures sat { result.sat ≡ word_saturates (reading form at.now regs.now (S.words file.now)) w }
 {
     elements_lie_in_their_group();
+    joined_by_elements();
     let per_word = 64 / sew;
     let old = group_word(file, at, regs.vd, w);
     if at.vl <= w * per_word {

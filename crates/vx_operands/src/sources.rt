@@ -1,8 +1,8 @@
-ghost use Rattle.std.specs.Prelude.{IsTrue, true, false, ◌≡◌, ℕ, ◌+◌, ◌*◌, ◌/◌, ◌<◌, ◌==◌};
+ghost use Rattle.std.specs.Prelude.{IsTrue, true, false, ◌≡◌, ℕ, ◌+◌, ◌*◌, ◌/◌, ◌<◌, ◌≤◌, ◌==◌};
 ghost use Rattle.vx_base.specs.Numbers.{reduced};
 ghost use Rattle.vx_bits.specs.Width.{is_width};
 ghost use Rattle.vx_operands.specs.Forms.{reading};
-ghost use Rattle.vx_operands.specs.Lanes.{AreLanes};
+ghost use Rattle.vx_operands.specs.Lanes.{AreLanes, FillsPart};
 ghost use Rattle.vx_rows.specs.declared.row.First.TheVariants.{Vector};
 ghost use Rattle.vx_vector.specs.Reading.{sew_of, vs1_width, second_operand};
 ghost use Rattle.vx_vstate.specs.Registers.{words_of_register, words_of_all, place_of, word_at, element, element_word};
@@ -82,5 +82,28 @@ pub fn mask_word<S: WordFile>(file: &S, at: &Setting, regs: &Places, count: u32,
         0
     } else {
         part(file, at, 0, 1, count, w)
+    }
+}
+
+/// `second_word` for a destination with fewer elements a word, `count` of them.
+#[inline(always)]
+pub fn second_part<S: WordFile>(form: Form, file: &S, at: &Setting, regs: &Places, sew: u32, count: u32, w: u32) -> u64
+    requires same { S.vlen file.now ≡ at.now.vlen }
+    requires sew { sew ≡ sew_of (reading form at.now regs.now (S.words file.now)) }
+    requires width { IsTrue (is_width sew) }
+    requires some { 0 < sew * count }
+    requires divides { FillsPart sew count }
+    requires few { count ≤ 64 / sew }
+    requires equal { form.first ≡ Vector → vs1_width (reading form at.now regs.now (S.words file.now)) ≡ sew }
+    requires within { form.first ≡ Vector → place_of at.now.vlen regs.now.vs1 (element_word sew (w * count)) < words_of_all at.now.vlen }
+    ensures { AreLanes sew result count (λ k. second_operand (reading form at.now regs.now (S.words file.now)) (w * count + k)) }
+{
+    joined_by_elements();
+    match form.first {
+        First::Vector => part(file, at, regs.vs1, sew, count, w),
+        First::Integer => splat(sew, at.scalar),
+        First::Signed => splat(sew, number(regs.imm)),
+        First::Unsigned => splat(sew, number(regs.imm)),
+        First::Fixed => 0,
     }
 }
