@@ -1,10 +1,11 @@
-ghost use Rattle.std.specs.Prelude.{◌≡◌, List, ℕ};
+ghost use Rattle.std.specs.Prelude.{◌≡◌, List, ℕ, IsTrue};
+ghost use Rattle.vx_bits.specs.Width.{is_width};
 ghost use Rattle.vx_operands.specs.Forms.{reading};
-ghost use Rattle.vx_vector.specs.Numbers.{plain};
+ghost use Rattle.vx_vector.specs.Numbers.{is_less_at, plain};
 ghost use Rattle.vx_vector.specs.Reading.{is_unmasked};
 ghost use Rattle.vx_vstate.specs.declared.setting.Setting.{Setting};
 
-use vx_bits::Sat;
+use vx_bits::{Sat, signed_reading};
 use vx_rows::{Family, First, Vm};
 use vx_vector::Places;
 
@@ -38,4 +39,13 @@ pub fn plain(value: u64) -> Sat
         value,
         sat: false,
     }
+}
+
+/// Whether `a` is less than `b`, as signed numbers of a width.
+#[inline(always)]
+pub fn is_less(width: u32, a: u64, b: u64) -> bool
+    requires { IsTrue (is_width width) }
+    ensures { result ≡ is_less_at width a b }
+{
+    signed_reading(width, a) < signed_reading(width, b)
 }

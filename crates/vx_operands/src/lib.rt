@@ -11,7 +11,7 @@ mod grouped;
 mod merged;
 mod sources;
 
-pub use form::{Form, is_unmasked, plain};
+pub use form::{Form, is_less, is_unmasked, plain};
 pub use grouped::{moved_word, whole_word, wide_word};
 pub use merged::{even_word, kept, merged_word};
 pub use sources::{group_word, mask_word, part, second_part, second_word};
