@@ -42,4 +42,3 @@ no_quotient Vdiv h _ n _ _ = n refl
 no_quotient Vremu h _ _ n _ = n refl
 no_quotient Vrem h _ _ _ n = n refl
 no_quotient other h _ _ _ _ = absurd (false≢true h)
-

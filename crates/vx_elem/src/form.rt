@@ -11,11 +11,7 @@ use vx_rows::{ElemOp, Family, First, Vm};
 fn form(family: Family, first: First, vm: Vm) -> Form
     ensures { result ≡ record { family = family; first = first; vm = vm } }
 {
-    Form {
-        family,
-        first,
-        vm,
-    }
+    Form { family, first, vm }
 }
 
 /// What the table of rows says of an operation.

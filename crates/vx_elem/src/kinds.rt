@@ -9,7 +9,13 @@ pub(crate) fn is_sum(family: Family) -> bool
     ensures { result ≡ is_sum family }
 {
     match family {
-        Family::Vadd | Family::Vsub | Family::Vrsub | Family::Vminu | Family::Vmin | Family::Vmaxu | Family::Vmax => true,
+        Family::Vadd
+        | Family::Vsub
+        | Family::Vrsub
+        | Family::Vminu
+        | Family::Vmin
+        | Family::Vmaxu
+        | Family::Vmax => true,
         _ => false,
     }
 }
@@ -20,7 +26,13 @@ pub(crate) fn is_bitwise(family: Family) -> bool
     ensures { result ≡ is_bitwise family }
 {
     match family {
-        Family::Vand | Family::Vor | Family::Vxor | Family::Vmerge | Family::Vsll | Family::Vsrl | Family::Vsra => true,
+        Family::Vand
+        | Family::Vor
+        | Family::Vxor
+        | Family::Vmerge
+        | Family::Vsll
+        | Family::Vsrl
+        | Family::Vsra => true,
         _ => false,
     }
 }
@@ -31,7 +43,14 @@ pub(crate) fn is_product(family: Family) -> bool
     ensures { result ≡ is_product family }
 {
     match family {
-        Family::Vmul | Family::Vmulh | Family::Vmulhu | Family::Vmulhsu | Family::Vmadd | Family::Vnmsub | Family::Vmacc | Family::Vnmsac => true,
+        Family::Vmul
+        | Family::Vmulh
+        | Family::Vmulhu
+        | Family::Vmulhsu
+        | Family::Vmadd
+        | Family::Vnmsub
+        | Family::Vmacc
+        | Family::Vnmsac => true,
         _ => false,
     }
 }

@@ -45,12 +45,25 @@ fn extended(widths: Packing, is_signed: bool, from: Sources) -> Made
     requires width { IsTrue (is_width widths.width) }
     ensures { result ≡ made widths from (λ l. plain (if is_signed then extended_at widths.a widths.width l.a else l.a)) }
 {
-    make(widths, from, |l| plain(extend(widths.a, widths.width, is_signed, l.a)))
+    make(
+        widths,
+        from,
+        |l| plain(extend(widths.a, widths.width, is_signed, l.a)),
+    )
 }
 
 /// Word `w` of the destination of an extension from a width.
 #[inline(always)]
-fn extended_word<S: WordFile>(form: Form, file: &S, at: &Setting, regs: &Places, sew: u32, narrow: u32, is_signed: bool, w: u32) -> Word
+fn extended_word<S: WordFile>(
+    form: Form,
+    file: &S,
+    at: &Setting,
+    regs: &Places,
+    sew: u32,
+    narrow: u32,
+    is_signed: bool,
+    w: u32,
+) -> Word
     requires same { S.vlen file.now ≡ at.now.vlen }
     requires sound { IsSound (reading form at.now regs.now (S.words file.now)) }
     requires each { IsTrue (is_each (rule_of form.family)) }
@@ -71,12 +84,27 @@ fn extended_word<S: WordFile>(form: Form, file: &S, at: &Setting, regs: &Places,
         a: narrow,
         b: sew,
     };
-    wide_word(form, file, at, regs, widths, w, |from| extended(widths, is_signed, from))
+    wide_word(
+        form,
+        file,
+        at,
+        regs,
+        widths,
+        w,
+        |from| extended(widths, is_signed, from),
+    )
 }
 
 /// Word `w` of the destination of a row with other operands than elements of SEW.
 #[inline(always)]
-fn other_word<S: WordFile>(form: Form, file: &S, at: &Setting, regs: &Places, sew: u32, w: u32) -> Word
+fn other_word<S: WordFile>(
+    form: Form,
+    file: &S,
+    at: &Setting,
+    regs: &Places,
+    sew: u32,
+    w: u32,
+) -> Word
     requires same { S.vlen file.now ≡ at.now.vlen }
     requires sound { IsSound (reading form at.now regs.now (S.words file.now)) }
     requires kind { IsTrue (is_other form.family form.first form.vm) }
@@ -114,7 +142,15 @@ fn word_of_form<S: WordFile>(form: Form, file: &S, at: &Setting, regs: &Places, 
 {
     let sew = at.sew();
     if is_plain(form.family) {
-        even_word(form, file, at, regs, sew, w, |from| lanes(form.family, sew, from))
+        even_word(
+            form,
+            file,
+            at,
+            regs,
+            sew,
+            w,
+            |from| lanes(form.family, sew, from),
+        )
     } else {
         other_word(form, file, at, regs, sew, w)
     }

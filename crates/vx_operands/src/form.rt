@@ -35,10 +35,7 @@ pub fn is_unmasked(form: Form, regs: &Places) -> bool
 pub fn plain(value: u64) -> Sat
     ensures { result ≡ plain value }
 {
-    Sat {
-        value,
-        sat: false,
-    }
+    Sat { value, sat: false }
 }
 
 /// Whether `a` is less than `b`, as signed numbers of a width.

@@ -23,7 +23,14 @@ use vx_vstate::{Setting, WordFile, elements_lie_in_their_group};
 
 /// Word `w` of the destination of vmv.v: active elements are those in the place of `vs1`.
 #[inline(always)]
-pub fn moved_word<S: WordFile>(form: Form, file: &S, at: &Setting, regs: &Places, sew: u32, w: u32) -> Word
+pub fn moved_word<S: WordFile>(
+    form: Form,
+    file: &S,
+    at: &Setting,
+    regs: &Places,
+    sew: u32,
+    w: u32,
+) -> Word
     requires same { S.vlen file.now ≡ at.now.vlen }
     requires sound { IsSound (reading form at.now regs.now (S.words file.now)) }
     requires moves { form.family ≡ VmvV }
@@ -49,7 +56,15 @@ pub fn moved_word<S: WordFile>(form: Form, file: &S, at: &Setting, regs: &Places
 
 /// Word `w` of so many whole registers that are copied, from element vstart on.
 #[inline(always)]
-pub fn whole_word<S: WordFile>(form: Form, file: &S, at: &Setting, regs: &Places, sew: u32, registers: u32, w: u32) -> Word
+pub fn whole_word<S: WordFile>(
+    form: Form,
+    file: &S,
+    at: &Setting,
+    regs: &Places,
+    sew: u32,
+    registers: u32,
+    w: u32,
+) -> Word
     requires same { S.vlen file.now ≡ at.now.vlen }
     requires sound { IsSound (reading form at.now regs.now (S.words file.now)) }
     requires each { IsTrue (is_each (rule_of form.family)) }
@@ -75,7 +90,15 @@ pub fn whole_word<S: WordFile>(form: Form, file: &S, at: &Setting, regs: &Places
 /// Word `w` of the destination of a row whose sources have narrower elements, or elements as wide. `f` gets those at the
 /// places of the word's elements, and gives the new elements.
 #[inline(always)]
-pub fn wide_word<S: WordFile, F: FnOnce(Sources) -> Made>(form: Form, file: &S, at: &Setting, regs: &Places, widths: Packing, w: u32, f: F) -> Word
+pub fn wide_word<S: WordFile, F: FnOnce(Sources) -> Made>(
+    form: Form,
+    file: &S,
+    at: &Setting,
+    regs: &Places,
+    widths: Packing,
+    w: u32,
+    f: F,
+) -> Word
     requires same { S.vlen file.now ≡ at.now.vlen }
     requires sound { IsSound (reading form at.now regs.now (S.words file.now)) }
     requires each { IsTrue (is_each (rule_of form.family)) }

@@ -47,7 +47,17 @@ fn let_in(form: Form, regs: &Places, mask: u64) -> u64
 
 /// Word `w` of the destination, of elements of a width: new elements where they are active, and old ones elsewhere.
 #[inline(always)]
-pub fn merged_word(form: Form, at: &Setting, regs: &Places, width: u32, count: u32, w: u32, mask: u64, old: u64, made: Made) -> Word
+pub fn merged_word(
+    form: Form,
+    at: &Setting,
+    regs: &Places,
+    width: u32,
+    count: u32,
+    w: u32,
+    mask: u64,
+    old: u64,
+    made: Made,
+) -> Word
     requires width { IsTrue (is_width width) }
     requires begins { w * (64 / width) < count }
     ensures value { (words : List ℕ) → IsTrue (is_each (rule_of form.family)) → width ≡ destination_width (reading form at.now regs.now words) → count ≡ count_of (reading form at.now regs.now words) → (is_unmasked (reading form at.now regs.now words) ≡ false → AreMaskBits (reading form at.now regs.now words) w mask) → old ≡ word_at at.now.vlen words regs.now.vd w → AreMade (reading form at.now regs.now words) w made → result.value ≡ made_word (reading form at.now regs.now words) w }
@@ -56,7 +66,12 @@ pub fn merged_word(form: Form, at: &Setting, regs: &Places, width: u32, count: u
     joined_by_elements();
     let per_word = 64 / width;
     let first = u64::from(w * per_word);
-    let lanes = active_lanes(first, u64::from(at.vstart), u64::from(count), let_in(form, regs, mask));
+    let lanes = active_lanes(
+        first,
+        u64::from(at.vstart),
+        u64::from(count),
+        let_in(form, regs, mask),
+    );
     Word {
         value: merge(width, lanes, made.value, old),
         sat: any_lane(per_word, lanes, made.sats),
@@ -66,7 +81,15 @@ pub fn merged_word(form: Form, at: &Setting, regs: &Places, width: u32, count: u
 /// Word `w` of the destination of a row whose operands all have elements of SEW. `f` gets the words at their places, and
 /// gives the new elements, in lanes of SEW.
 #[inline(always)]
-pub fn even_word<S: WordFile, F: FnOnce(Sources) -> Made>(form: Form, file: &S, at: &Setting, regs: &Places, sew: u32, w: u32, f: F) -> Word
+pub fn even_word<S: WordFile, F: FnOnce(Sources) -> Made>(
+    form: Form,
+    file: &S,
+    at: &Setting,
+    regs: &Places,
+    sew: u32,
+    w: u32,
+    f: F,
+) -> Word
     requires same { S.vlen file.now ≡ at.now.vlen }
     requires sound { IsSound (reading form at.now regs.now (S.words file.now)) }
     requires each { IsTrue (is_each (rule_of form.family)) }

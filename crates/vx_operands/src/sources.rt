@@ -27,7 +27,14 @@ pub fn group_word<S: WordFile>(file: &S, at: &Setting, register: u8, w: u32) -> 
 /// The elements of a width from element `w * count` on, `count` of them, in the lowest bits. They fill a half, a quarter,
 /// .. of a word.
 #[inline(always)]
-pub fn part<S: WordFile>(file: &S, at: &Setting, register: u8, width: u32, count: u32, w: u32) -> u64
+pub fn part<S: WordFile>(
+    file: &S,
+    at: &Setting,
+    register: u8,
+    width: u32,
+    count: u32,
+    w: u32,
+) -> u64
     requires same { S.vlen file.now ≡ at.now.vlen }
     requires some { 0 < width * count }
     requires divides { 64 / (width * count) * (width * count) ≡ 64 }
@@ -49,7 +56,14 @@ fn number(imm: i64) -> u64
 /// The word that stands in the place of `vs1`, for word `w` of a destination of SEW: that of a register, or as many copies of
 /// a number.
 #[inline(always)]
-pub fn second_word<S: WordFile>(form: Form, file: &S, at: &Setting, regs: &Places, sew: u32, w: u32) -> u64
+pub fn second_word<S: WordFile>(
+    form: Form,
+    file: &S,
+    at: &Setting,
+    regs: &Places,
+    sew: u32,
+    w: u32,
+) -> u64
     requires same { S.vlen file.now ≡ at.now.vlen }
     requires sew { sew ≡ sew_of (reading form at.now regs.now (S.words file.now)) }
     requires width { IsTrue (is_width sew) }
@@ -87,7 +101,15 @@ pub fn mask_word<S: WordFile>(file: &S, at: &Setting, regs: &Places, count: u32,
 
 /// `second_word` for a destination with fewer elements a word, `count` of them.
 #[inline(always)]
-pub fn second_part<S: WordFile>(form: Form, file: &S, at: &Setting, regs: &Places, sew: u32, count: u32, w: u32) -> u64
+pub fn second_part<S: WordFile>(
+    form: Form,
+    file: &S,
+    at: &Setting,
+    regs: &Places,
+    sew: u32,
+    count: u32,
+    w: u32,
+) -> u64
     requires same { S.vlen file.now ≡ at.now.vlen }
     requires sew { sew ≡ sew_of (reading form at.now regs.now (S.words file.now)) }
     requires width { IsTrue (is_width sew) }

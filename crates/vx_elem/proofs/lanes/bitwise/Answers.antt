@@ -41,4 +41,3 @@ pub returns-in-Vsra : goal.returns-in-Vsra
 returns-in-Vsra c =
     c.make_even-in-Vsra.ensures (λ l. answer Vsra (numbers_of c.args.sew 0 l)) (λ l s w p. search rules)
     ∙ sym (ap (λ (f : Family). made (even_packing c.args.sew) c.args.from (λ l. answer f (numbers_of c.args.sew 0 l))) c.in-Vsra.is)
-

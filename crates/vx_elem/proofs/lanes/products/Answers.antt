@@ -46,4 +46,3 @@ pub returns-in-Vnmsac : goal.returns-in-Vnmsac
 returns-in-Vnmsac c =
     c.make_even-in-Vnmsac.ensures (λ l. answer Vnmsac (numbers_of c.args.sew 0 l)) (λ l s w p. search rules)
     ∙ sym (ap (λ (f : Family). made (even_packing c.args.sew) c.args.from (λ l. answer f (numbers_of c.args.sew 0 l))) c.in-Vnmsac.is)
-

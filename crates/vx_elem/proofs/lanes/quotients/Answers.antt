@@ -26,4 +26,3 @@ pub returns-in-Vrem : goal.returns-in-Vrem
 returns-in-Vrem c =
     c.make_even-in-Vrem.ensures (λ l. answer Vrem (numbers_of c.args.sew 0 l)) (λ l s w p. search rules)
     ∙ sym (ap (λ (f : Family). made (even_packing c.args.sew) c.args.from (λ l. answer f (numbers_of c.args.sew 0 l))) c.in-Vrem.is)
-

@@ -41,4 +41,3 @@ pub returns-in-Vmax : goal.returns-in-Vmax
 returns-in-Vmax c =
     c.make_even-in-Vmax.ensures (λ l. answer Vmax (numbers_of c.args.sew 0 l)) (λ l s w p. search rules)
     ∙ sym (ap (λ (f : Family). made (even_packing c.args.sew) c.args.from (λ l. answer f (numbers_of c.args.sew 0 l))) c.in-Vmax.is)
-

@@ -149,4 +149,3 @@ extended_word-requires-in-VsextVf2-clause-narrow g c = ap (λ s. s / 2) c.requir
 
 pub extended_word-requires-in-VsextVf2-clause-extends : goal.extended_word-requires-in-VsextVf2-clause-extends
 extended_word-requires-in-VsextVf2-clause-extends g c mode l = ap (λ (f : Family). answer f (numbers_of c.args.sew mode l)) c.in-VsextVf2.is
-
