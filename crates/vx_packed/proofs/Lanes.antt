@@ -165,16 +165,14 @@ behind first from k =
     (λ l. let m : from ≤ first + k = omega arith in ap not (le-ltb k (from - first) l) ∙ sym (le-leb from (first + k) m))
     (cases_lt k (from - first))
 
-pub active_bits : (first from to bits : ℕ) → bits < 2 ^ 64 → bit_and (bit_and bits (2 ^ min (to - first) 64 - 1)) (2 ^ 64 - 1 - (2 ^ min (from - first) 64 - 1)) ≡ joined 1 64 (λ k. truth (leb from (first + k) && ltb (first + k) to && nat_eq (lane 1 bits k) 1))
-active_bits first from to bits small =
-    bit_lane (bit_and (bit_and bits low) (2 ^ 64 - 1 - high)) 64 (λ k. truth (leb from (first + k) && ltb (first + k) to && nat_eq (lane 1 bits k) 1))
-    (let first = and_le_l (bit_and bits low) (2 ^ 64 - 1 - high) in let second = and_le_l bits low in omega arith)
-    (λ k h.
-    bit_at_and (bit_and bits low) (bit_not w64 high) k
+pub active_bit : (first from to bits k : ℕ) → k < 64 → lane 1 (bit_and (bit_and bits (2 ^ min (to - first) 64 - 1)) (2 ^ 64 - 1 - (2 ^ min (from - first) 64 - 1))) k ≡ truth (leb from (first + k) && ltb (first + k) to && nat_eq (lane 1 bits k) 1)
+active_bit first from to bits k h =
+    lane_bit (bit_and (bit_and bits low) (2 ^ 64 - 1 - high)) k
+    ∙ bit_at_and (bit_and bits low) (bit_not w64 high) k
     ∙ (λ i. min (bit_at_and bits low k i) (bit_at_not w64 high k high-lt h i))
     ∙ (λ i. min (min (bit_at bits k) (ones_bit (to - first) k h i)) (1 - ones_bit (from - first) k h i))
     ∙ three (bit_at bits k) (ltb k (to - first)) (ltb k (from - first)) (bit_at-lt bits k)
-    ∙ (λ i. truth (behind first from k i && before first to k i && nat_eq (sym (lane_bit bits k) i) 1)))
+    ∙ (λ i. truth (behind first from k i && before first to k i && nat_eq (sym (lane_bit bits k) i) 1))
   where
     low : ℕ
     low = 2 ^ min (to - first) 64 - 1
@@ -188,6 +186,18 @@ active_bits first from to bits small =
         let p : 2 ^ min (from - first) 64 ≤ 2 ^ 64 = pow_mono n in
         let some = pow_pos (min (from - first) 64) in
         omega arith
+
+one_or_none : (b : ℕ) → b < 2 → b ≡ truth (nat_eq b 1)
+one_or_none zero h = refl
+one_or_none (suc zero) h = refl
+one_or_none (suc (suc b)) h = absurd (omega arith)
+
+-- where all of the lanes are among the elements
+pub active_all : (count first from to bits k : ℕ) → from ≤ first → count ≤ to - first → k < count → lane 1 bits k ≡ truth (leb from (first + k) && ltb (first + k) to && nat_eq (lane 1 bits k) 1)
+active_all count first from to bits k low high l =
+    let after : from ≤ first + k = omega arith in
+    let until : first + k < to = omega arith in
+    one_or_none (lane 1 bits k) (lane-lt 1 bits k) ∙ (λ i. truth (sym (le-leb from (first + k) after) i && sym (lt-ltb (first + k) to until) i && nat_eq (lane 1 bits k) 1))
 
 -- ---- words of one element, many times
 

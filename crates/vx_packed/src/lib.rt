@@ -9,6 +9,8 @@ mod elements;
 mod laws;
 mod making;
 mod merging;
+#[cfg(test)]
+mod tests;
 
 pub use elements::{Lane, Made, Packing, Sources};
 pub use laws::joined_by_elements;

@@ -55,13 +55,18 @@ fn first_ones(count: u64) -> u64
     }
 }
 
-/// A bit for each of 64 elements that begin with element `first`: whether it isn't before `from`, is before `to`, and its
-/// bit of `bits` is 1.
+/// A bit for each of so many elements that begin with element `first`: whether it isn't before `from`, is before `to`, and
+/// its bit of `bits` is 1. The bits above are any.
 #[inline(always)]
-pub fn active_lanes(first: u64, from: u64, to: u64, bits: u64) -> u64
-    ensures { result ≡ joined 1 64 (λ k. truth (nat_le from (first + k) && nat_lt (first + k) to && lane 1 bits k == 1)) }
+pub fn active_lanes(count: u32, first: u32, from: u32, to: u32, bits: u64) -> u64
+    requires { count ≤ 64 }
+    ensures { (k : ℕ) → k < count → lane 1 result k ≡ truth (nat_le from (first + k) && nat_lt (first + k) to && lane 1 bits k == 1) }
 {
-    bits & first_ones(to.saturating_sub(first)) & !first_ones(from.saturating_sub(first))
+    let below = to.saturating_sub(first);
+    if from <= first && count <= below {
+        return bits;
+    }
+    bits & first_ones(below as u64) & !first_ones(from.saturating_sub(first) as u64)
 }
 
 /// Some of the first `count` bits is 1 in both words.

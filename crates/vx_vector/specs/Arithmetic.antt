@@ -1,12 +1,12 @@
 -- An instruction of vector arithmetic: the fold over its elements in rising order. RISC-V "V" 1.0, sections 5.3, 5.4, 10, 14
 -- and 16. Elements that take no part stay as they are.
-use Rattle.std.specs.Prelude.{ℕ, zero, suc, ◌+◌, ◌%◌, ◌^◌, Bool, false, ◌==◌, ◌&&◌, ◌||◌, nat_lt, List, fold, length, get_or, if◌then◌else◌, Option, Some, None, option_map}
+use Rattle.std.specs.Prelude.{ℕ, zero, suc, ◌%◌, ◌^◌, Bool, false, ◌==◌, ◌&&◌, nat_lt, List, length, get_or, if◌then◌else◌, Option, Some, None, option_map}
 use Rattle.vx_bits.specs.declared.saturation.Sat.{Sat}
 use Rattle.vx_packed.specs.Joined.{some_below}
 use Rattle.vx_vstate.specs.Registers.{with_element}
-use Rattle.vx_vector.specs.Lists.{Lists, active_elements, packed}
+use Rattle.vx_vector.specs.Lists.{joined_with, packed}
 use Rattle.vx_vector.specs.Numbers.{plain}
-use Rattle.vx_vector.specs.Reading.{Reading, sew_of, destination_width, vs1_width, element_of, count_of, is_active, numbers_at, lists_of}
+use Rattle.vx_vector.specs.Reading.{Reading, sew_of, destination_width, count_of, is_active, numbers_at, lists_of}
 use Rattle.vx_vector.specs.Rules.{Rule, rule_of}
 use Rattle.vx_vector.specs.Rules.Rule.{Each, Index, Permute, Reduce, Pack, Put, Tell}
 
@@ -23,7 +23,7 @@ abbrev pub becomes_by : Rule → Reading → ℕ → Option Sat
 becomes_by (Each f) r i = given (is_active r i) (f (numbers_at r i))
 becomes_by (Index f) r i = given (is_active r i) (plain (f (sew_of r) i))
 becomes_by (Permute f) r i = if is_active r i then option_map plain (f (lists_of r) i) else None
-becomes_by (Reduce f) r i = given (has_first r i) (plain (fold (f (sew_of r)) (element_of r r.places.vs1 (vs1_width r) 0) (active_elements (lists_of r))))
+becomes_by (Reduce f) r i = given (has_first r i) (plain (joined_with (f (sew_of r)) (lists_of r)))
 becomes_by Pack r i = given (nat_lt i (length (packed (lists_of r)))) (plain (get_or (packed (lists_of r)) i 0))
 becomes_by Put r i = given (has_first r i) (plain (r.at.scalar % 2 ^ sew_of r))
 becomes_by (Tell f) r i = None

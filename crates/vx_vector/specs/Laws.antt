@@ -1,6 +1,6 @@
 -- What the laws of vector arithmetic say: words of the destination are made one by one, each of the words that it needs. This
 -- project's own.
-use Rattle.std.specs.Prelude.{◌≡◌, ℕ, zero, ◌+◌, ◌*◌, ◌/◌, ◌^◌, ◌<◌, ◌≤◌, Bool, true, false, ◌||◌, IsTrue, List, length, map, slice_index, Option, Some, None}
+use Rattle.std.specs.Prelude.{◌≡◌, ℕ, ◌+◌, ◌*◌, ◌/◌, ◌^◌, ◌<◌, ◌≤◌, Bool, true, false, ◌||◌, IsTrue, List, length, map, slice_index, Option, Some, None}
 use Rattle.std.specs.List.{Contains}
 use Rattle.vx_bits.specs.declared.saturation.Sat.{Sat}
 use Rattle.vx_packed.specs.Joined.{joined, some_below}
@@ -10,9 +10,9 @@ use Rattle.vx_rows.specs.Families.{operands_of}
 use Rattle.vx_rows.specs.declared.family.Operand.{Operand}
 use Rattle.vx_rows.specs.declared.family.Operand.TheVariants.{Absent}
 use Rattle.vx_rows.specs.declared.row.Class.TheVariants.{VectorArithmetic}
-use Rattle.vx_vstate.specs.Registers.{words_of_register, words_of_all, element_word, is_element_width}
-use Rattle.vx_vector.specs.Arithmetic.{becomes, has_saturated}
-use Rattle.vx_vector.specs.Reading.{Reading, sew_of, destination_width, element_of, elements_in}
+use Rattle.vx_vstate.specs.Registers.{word_at, words_of_register, words_of_all, element_word, is_element_width}
+use Rattle.vx_vector.specs.Arithmetic.{given, becomes, has_saturated}
+use Rattle.vx_vector.specs.Reading.{Reading, sew_of, destination_width, is_active, element_of, count_in}
 use Rattle.vx_vector.specs.Rules.{rule_of}
 use Rattle.vx_vector.specs.Words.{registers_of_operand, vs1_operand, made_by, handled_words}
 
@@ -26,7 +26,7 @@ is_absent other = false
 pub record IsPlaced (r : Reading) (operand : Operand) (register : ℕ) : Type 0 where
   pub width : IsTrue (is_absent operand || is_element_width (width_of operand (sew_of r)))
   pub room : register + registers_of_operand r operand ≤ 32
-  pub within : (i : ℕ) → i < elements_in r operand → element_word (width_of operand (sew_of r)) i < registers_of_operand r operand * words_of_register r.at.vlen
+  pub within : (i : ℕ) → i < count_in r operand → element_word (width_of operand (sew_of r)) i < registers_of_operand r operand * words_of_register r.at.vlen
 
 -- the words are those of all registers, of 64 bits each; the operands lie in them; and a row that can't go on from an element
 -- behind the first doesn't
@@ -62,9 +62,21 @@ module _ (r : Reading) where
   abbrev pub word_saturates : (w : ℕ) → Bool
   word_saturates w = some_below per_word (λ k. has_saturated (becomes r (w * per_word + k)))
 
-  -- the words of the destination that are made as the words are handled
+  -- word w of the destination as it was
+  abbrev pub word_before : (w : ℕ) → ℕ
+  word_before w = word_at r.at.vlen r.words r.places.vd w
+
+  -- each active element becomes what g gives, and no other element becomes anything
+  abbrev pub IsByElement : (g : ℕ → Sat) → Type 0
+  IsByElement g = (i : ℕ) → becomes r i ≡ given (is_active r i) (g i)
+
+  -- the word of the destination that is made as word w is handled
+  abbrev pub made_by_handling : (w : ℕ) → ℕ
+  made_by_handling w = made_by r (rule_of r.family) w
+
+  -- all words of the destination that are made
   abbrev pub made_words : List ℕ
-  made_words = map (made_by r (rule_of r.family)) (handled_words r)
+  made_words = map made_by_handling (handled_words r)
 
 -- ---- the words that are needed
 

@@ -1,6 +1,7 @@
 pub mod Accesses
 pub mod Arithmetic
 pub mod Numbers
+pub mod Instructions
 pub mod Laws
 pub mod Lists
 pub mod Reading

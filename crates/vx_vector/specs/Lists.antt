@@ -1,6 +1,6 @@
 -- What depends on elements at other indices than an element's own: RISC-V "V" 1.0, sections 14 (reductions), 15.2 to 15.6
 -- (masks) and 16 (permutations).
-use Rattle.std.specs.Prelude.{ℕ, ◌+◌, ◌-◌, Bool, true, false, ◌==◌, ◌&&◌, nat_lt, List, [], ◌∷◌, map, take, get_or, if◌then◌else◌, Option, Some, None}
+use Rattle.std.specs.Prelude.{ℕ, ◌+◌, ◌-◌, Bool, true, false, ◌==◌, ◌&&◌, nat_lt, List, [], ◌∷◌, map, fold, take, get_or, if◌then◌else◌, Option, Some, None}
 
 -- the operands as lists
 pub record Lists : Type 0 where
@@ -37,6 +37,10 @@ chosen (x ∷ xs) (flag ∷ flags) = if flag then x ∷ chosen xs flags else cho
 -- the active elements of vs2
 abbrev pub active_elements : Lists → List ℕ
 active_elements s = chosen s.vs2 s.active
+
+-- element 0 of vs1 joined with each active element of vs2 in turn
+abbrev pub joined_with : (sum_with : ℕ → ℕ → ℕ) → Lists → ℕ
+joined_with sum_with s = fold sum_with (get_or s.vs1 0 0) (active_elements s)
 
 -- whether each bit is set and its flag true
 abbrev pub marked : List ℕ → List Bool → List Bool

@@ -1,6 +1,6 @@
 -- What an element becomes, of the numbers at its own index: RISC-V "V" 1.0, sections 11 (integer arithmetic), 12 (fixed
 -- point) and 15.1 (mask logic).
-use Rattle.std.specs.Prelude.{ℕ, ◌+◌, ◌-◌, ◌*◌, ◌%◌, ◌^◌, Bool, false, ◌==◌, if◌then◌else◌, ℤ, pos, ◌+ℤ◌, ◌-ℤ◌, ◌*ℤ◌, int_lt}
+use Rattle.std.specs.Prelude.{ℕ, ◌%◌, Bool, false, ◌==◌, if◌then◌else◌, ℤ, int_lt}
 use Rattle.vx_base.specs.Numbers.{reduced}
 use Rattle.vx_bits.specs.Rounding.{rounded}
 use Rattle.vx_bits.specs.Width.{signed_at}

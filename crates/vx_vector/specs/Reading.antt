@@ -1,6 +1,6 @@
 -- What an instruction of vector arithmetic reads: the operands of an element, which elements are active, and the operands as
 -- lists. RISC-V "V" 1.0, sections 5 and 10. All is read as it stood when the instruction began.
-use Rattle.std.specs.Prelude.{ℕ, ◌+◌, ◌*◌, ◌/◌, ◌%◌, ◌^◌, Bool, true, not, ◌==◌, ◌&&◌, ◌||◌, nat_lt, nat_le, List, [], map, if◌then◌else◌}
+use Rattle.std.specs.Prelude.{ℕ, ◌*◌, ◌/◌, ◌%◌, ◌^◌, Bool, true, not, ◌==◌, ◌&&◌, ◌||◌, nat_lt, nat_le, List, [], map, if◌then◌else◌}
 use Rattle.std.specs.List.{range_with_len}
 use Rattle.vx_base.specs.Numbers.{reduced}
 use Rattle.vx_rows.specs.Families.{operands_of}
@@ -61,11 +61,11 @@ module _ (r : Reading) where
   mask_bit i = is_set (element_of 0 1 i)
 
   -- how many elements an operand has: one, as many as whole registers hold, or VLMAX
-  abbrev pub elements_in : Operand → ℕ
-  elements_in Absent = 0
-  elements_in Element = 1
-  elements_in WideElement = 1
-  elements_in operand =
+  abbrev pub count_in : Operand → ℕ
+  count_in Absent = 0
+  count_in Element = 1
+  count_in WideElement = 1
+  count_in operand =
       let whole = whole_registers operand in
       if whole == 0 then vlmax r.at.vlen r.at.vtype else whole * r.at.vlen / width_of operand sew_of
 
@@ -73,23 +73,30 @@ module _ (r : Reading) where
   abbrev pub count_of : ℕ
   count_of =
       let destination = (operands_of r.family).destination in
-      if whole_registers destination == 0 then r.at.vl else elements_in destination
+      if whole_registers destination == 0 then r.at.vl else count_in destination
 
-  -- its elements aren't masked: bit 25 is 1, or the row reads v0 as an operand
-  abbrev pub is_unmasked : Bool
-  is_unmasked = elim r.vm [ vm.Any ↦ r.places.vm | vm.Zero ↦ true | vm.One ↦ true ]
+  -- the row's elements aren't masked: bit 25 is 1, or the row reads v0 as an operand
+  abbrev pub is_unmasked_by : Vm → Bool
+  is_unmasked_by vm.Any = r.places.vm
+  is_unmasked_by vm.Zero = true
+  is_unmasked_by vm.One = true
 
   -- element i takes part
   abbrev pub is_active : ℕ → Bool
-  is_active i = nat_le r.at.vstart i && nat_lt i count_of && (is_unmasked || mask_bit i)
+  is_active i = nat_le r.at.vstart i && nat_lt i count_of && (is_unmasked_by r.vm || mask_bit i)
 
-  -- what stands in the place of vs1, of 64 bits where it is no element of a register
-  abbrev pub number_of : ℕ
-  number_of = elim r.first [ first.Vector ↦ 0 | first.Integer ↦ r.at.scalar | first.Signed ↦ reduced 64 r.places.imm | first.Unsigned ↦ reduced 64 r.places.imm | first.Fixed ↦ 0 ]
+  -- what stands in the place of vs1 where that is no register of elements, in 64 bits
+  abbrev pub number_by : First → ℕ
+  number_by first.Vector = 0
+  number_by first.Integer = r.at.scalar
+  number_by first.Signed = reduced 64 r.places.imm
+  number_by first.Unsigned = reduced 64 r.places.imm
+  number_by first.Fixed = 0
 
   -- operand b of element i
-  abbrev pub second_operand : ℕ → ℕ
-  second_operand i = elim r.first [ first.Vector ↦ element_of r.places.vs1 vs1_width i | first.Integer ↦ number_of % 2 ^ sew_of | first.Signed ↦ number_of % 2 ^ sew_of | first.Unsigned ↦ number_of % 2 ^ sew_of | first.Fixed ↦ 0 ]
+  abbrev pub second_by : First → (i : ℕ) → ℕ
+  second_by first.Vector i = element_of r.places.vs1 vs1_width i
+  second_by other i = number_by other % 2 ^ sew_of
 
   -- the numbers at element i
   abbrev pub numbers_at : ℕ → Numbers
@@ -97,14 +104,19 @@ module _ (r : Reading) where
     sew = sew_of;
     mode = r.at.vxrm;
     a = element_of r.places.vs2 vs2_width i;
-    b = second_operand i;
+    b = second_by r.first i;
     d = element_of r.places.vd destination_width i;
     m = not r.places.vm && mask_bit i;
   }
 
   -- the elements of an operand that begins at a register
   abbrev pub elements_of : Operand → (register : ℕ) → List ℕ
-  elements_of operand register = map (element_of register (width_of operand sew_of)) (range_with_len 0 (elements_in operand))
+  elements_of operand register = map (element_of register (width_of operand sew_of)) (range_with_len 0 (count_in operand))
+
+  -- those in the place of vs1
+  abbrev pub elements_by : First → List ℕ
+  elements_by first.Vector = elements_of (operands_of r.family).vs1 r.places.vs1
+  elements_by other = []
 
   -- the operands as lists
   abbrev pub lists_of : Lists
@@ -112,7 +124,7 @@ module _ (r : Reading) where
     sew = sew_of;
     vl = r.at.vl;
     vs2 = elements_of (operands_of r.family).vs2 r.places.vs2;
-    vs1 = elim r.first [ first.Vector ↦ elements_of (operands_of r.family).vs1 r.places.vs1 | first.Integer ↦ [] | first.Signed ↦ [] | first.Unsigned ↦ [] | first.Fixed ↦ [] ];
-    x = number_of;
+    vs1 = elements_by r.first;
+    x = number_by r.first;
     active = map is_active (range_with_len 0 r.at.vl);
   }

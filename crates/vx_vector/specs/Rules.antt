@@ -1,7 +1,7 @@
 -- What each family computes, one line each: RISC-V "V" 1.0, sections 11, 12, 14, 15 and 16. In a rule over numbers, a is the
 -- element of vs2, b that of vs1, of the integer register or of the number, d the old element and m the bit of v0; results
 -- are reduced to the width of the destination.
-use Rattle.std.specs.Prelude.{ℕ, ◌+◌, ◌-◌, ◌*◌, ◌%◌, ◌^◌, Bool, not, ◌==◌, ◌&&◌, ◌||◌, nat_lt, nat_le, min, max, bit_and, bit_or, bit_xor, ℤ, pos, ◌+ℤ◌, ◌-ℤ◌, ◌*ℤ◌, if◌then◌else◌, true, false, ◌/◌, Option, Some, None, unwrap_or}
+use Rattle.std.specs.Prelude.{ℕ, ◌+◌, ◌-◌, ◌*◌, ◌%◌, ◌^◌, Bool, not, ◌==◌, ◌&&◌, ◌||◌, nat_lt, nat_le, min, max, bit_and, bit_or, bit_xor, ℤ, pos, ◌+ℤ◌, ◌-ℤ◌, ◌*ℤ◌, if◌then◌else◌, true, false, ◌/◌, Option, Some, unwrap_or}
 use Rattle.vx_base.specs.Numbers.{reduced}
 use Rattle.vx_bits.specs.Arithmetic.{sum_at, difference_at, product_at, signed_high_at, unsigned_high_at, mixed_high_at, signed_quotient_at, unsigned_quotient_at, signed_remainder_at, unsigned_remainder_at, shifted_left_at, shifted_right_at, sign_shifted_right_at}
 use Rattle.vx_bits.specs.Saturation.{fitted_at, unsigned_saturated_sum_at, signed_saturated_sum_at, unsigned_saturated_difference_at, signed_saturated_difference_at}

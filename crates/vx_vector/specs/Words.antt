@@ -1,7 +1,7 @@
 -- Which words of the registers an instruction of vector arithmetic handles, one after another, and which it needs for each.
 -- This project's own: times and the order in which words are made speak of these. Words are told by their places in the
 -- list of all.
-use Rattle.std.specs.Prelude.{ℕ, ◌+◌, ◌-◌, ◌*◌, ◌/◌, min, max, Bool, not, nat_lt, List, [], ◌∷◌, ◌++◌, map, flat_map, if◌then◌else◌}
+use Rattle.std.specs.Prelude.{ℕ, ◌+◌, ◌-◌, ◌*◌, ◌/◌, min, max, nat_lt, List, [], ◌∷◌, ◌++◌, flat_map, if◌then◌else◌}
 use Rattle.std.specs.List.{range_with_len}
 use Rattle.vx_legal.specs.Groups.{eighths_of}
 use Rattle.vx_rows.specs.Families.{operands_of, unit_of}
@@ -72,8 +72,12 @@ module _ (r : Reading) where
   place_of_element operand register width i = place_of r.at.vlen register (element_word width i) ∷ []
 
   -- the operand in the place of vs1, where a register stands there
+  abbrev pub vs1_operand_by : First → Operand
+  vs1_operand_by first.Vector = (operands_of r.family).vs1
+  vs1_operand_by other = Absent
+
   abbrev pub vs1_operand : Operand
-  vs1_operand = elim r.first [ first.Vector ↦ (operands_of r.family).vs1 | first.Integer ↦ Absent | first.Signed ↦ Absent | first.Unsigned ↦ Absent | first.Fixed ↦ Absent ]
+  vs1_operand = vs1_operand_by r.first
 
   -- the mask in v0, where it is read
   abbrev pub mask_operand : Operand

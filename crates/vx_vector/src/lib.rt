@@ -6,6 +6,11 @@
 //! of the definitions.
 #![tactic(auto)]
 
+mod laws;
 mod places;
 
+pub use laws::{
+    elements_are_lanes, legal_readings_are_sound, other_words_stay, words_are_made,
+    words_need_their_sources,
+};
 pub use places::{Places, Word};

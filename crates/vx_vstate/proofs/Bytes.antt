@@ -1,12 +1,12 @@
 -- Elements by their bytes.
-use Rattle.std.proofs.Common.{◌≡◌, ℕ, zero, suc, ◌+◌, ◌*◌, ◌/◌, ◌%◌, ◌^◌, ◌<◌, ◌≤◌, ◌⊎◌, ⊎_elim, List, length, slice_index, slice_set, IsTrue, sym, ap, ◌∙◌, subst, arith}
+use Rattle.std.proofs.Common.{◌≡◌, ℕ, zero, suc, ◌+◌, ◌*◌, ◌/◌, ◌%◌, ◌^◌, ◌<◌, ◌≤◌, ◌⊎◌, ⊎_elim, List, length, slice_index, slice_set, IsTrue, refl, sym, ap, ◌∙◌, subst, arith}
 use Rattle.std.proofs.lemmas.Bool.{cases_lt, cases_eq}
 use Rattle.std.proofs.lemmas.Bool.Decides.{nat_tests}
 use Rattle.std.proofs.lemmas.List.{get_or-set_same, set_past}
 use Rattle.vx_base.specs.Numbers.{field, from_little_endian}
 use Rattle.vx_base.specs.Options.{is_register_length}
-use Rattle.vx_vstate.specs.Registers.{element, element_word, place_of, is_byte_width, is_element_width, element_bit, byte_at, bytes_at, with_field, with_element}
-use Rattle.vx_vstate.proofs.Fields.{field-split, field-in_field, with_field-lt}
+use Rattle.vx_vstate.specs.Registers.{element, element_word, place_of, word_at, is_byte_width, is_element_width, element_bit, byte_at, bytes_at, with_field, with_element}
+use Rattle.vx_vstate.proofs.Fields.{field-split, field-in_field, with_field-lt, same_fields}
 use Rattle.vx_vstate.proofs.Elements.{word-with_other}
 
 -- bytes of one word
@@ -66,21 +66,44 @@ mask-bit vlen words register index h =
     let bit : 8 * b + index % 8 ≡ index * 1 % 64 = omega arith in
     sym (ap (λ k. field k (index % 8) 1) byte ∙ field-in_field n (8 * b) 8 (index % 8) 1 (omega arith) ∙ ap (λ k. field n k 1) bit)
 
+-- ---- elements and their words
+
+by_element_width : (P : ℕ → Type 0) (width : ℕ) → P 1 → P 8 → P 16 → P 32 → P 64 → IsTrue (is_element_width width) → P width
+by_element_width P width p1 p8 p16 p32 p64 h =
+    let cases : (width ≡ 1) ⊎ IsTrue (is_byte_width width) = grind (arith, nat_tests, h) in
+    ⊎_elim (λ e. subst P (sym e) p1) (by_width P width p8 p16 p32 p64) cases
+
 -- an element lies within its word
 pub element_bit-le : (width index : ℕ) → IsTrue (is_element_width width) → element_bit width index + width ≤ 64
-element_bit-le width index h =
-    let cases : (width ≡ 1) ⊎ IsTrue (is_byte_width width) = grind (arith, nat_tests, h) in
-    ⊎_elim (λ e. subst P (sym e) one) (by_width P width (omega arith) (omega arith) (omega arith) (omega arith)) cases
-  where
-    P : ℕ → Type 0
-    P w = index * w % 64 + w ≤ 64
+element_bit-le width index =
+    by_element_width (λ w. index * w % 64 + w ≤ 64) width (omega arith) (omega arith) (omega arith) (omega arith) (omega arith)
 
-    one : P 1
-    one = omega arith
+-- element j of word w
+abbrev pub IsPlaced : (w j width : ℕ) → Type 0
+IsPlaced w j width = (element_word width (w * (64 / width) + j) ≡ w) × (element_bit width (w * (64 / width) + j) ≡ j * width)
+
+placed : (w j width : ℕ) → IsTrue (is_element_width width) → j < 64 / width → IsPlaced w j width
+placed w j width =
+    by_element_width (λ n. j < 64 / n → IsPlaced w j n) width (λ h. (omega (arith, h), omega (arith, h))) (λ h. (omega (arith, h), omega (arith, h))) (λ h. (omega (arith, h), omega (arith, h))) (λ h. (omega (arith, h), omega (arith, h))) (λ h. (omega (arith, h), omega (arith, h)))
+
+filled : (width : ℕ) → IsTrue (is_element_width width) → 64 / width * width ≡ 64
+filled width = by_element_width (λ n. 64 / n * n ≡ 64) width refl refl refl refl refl
+
+pub word-from_elements : (vlen : ℕ) (words : List ℕ) (register width w n : ℕ) → IsTrue (is_element_width width) → word_at vlen words register w < 2 ^ 64 → n < 2 ^ 64 → ((index : ℕ) → element_word width index ≡ w → element vlen words register width index ≡ field n (element_bit width index) width) → word_at vlen words register w ≡ n
+word-from_elements vlen words register width w n h low high same =
+    let word = word_at vlen words register w in
+    let all = ap (λ k. word % 2 ^ k) (sym (filled width h)) ∙ same_fields word n width (64 / width) each ∙ ap (λ k. n % 2 ^ k) (filled width h) in
+    omega arith
+  where
+    each : (j : ℕ) → j < 64 / width → field (word_at vlen words register w) (j * width) width ≡ field n (j * width) width
+    each j k =
+        let index = w * (64 / width) + j in
+        let place = placed w j width h k in
+        (λ i. field (word_at vlen words register (sym place.0 i)) (sym place.1 i) width) ∙ same index place.0 ∙ ap (λ b. field n b width) place.1
 
 -- each word keeps to 64 bits
-pub word-with_element-lt : (vlen : ℕ) (words : List ℕ) (register width index value place : ℕ) → IsTrue (is_element_width width) → ((k : ℕ) → slice_index words k < 2 ^ 64) → slice_index (with_element vlen words register width index value) place < 2 ^ 64
-word-with_element-lt vlen words register width index value place h all = ⊎_elim one two (cases_eq here place)
+pub word-with_element-lt : (vlen : ℕ) (words : List ℕ) (register width index value place : ℕ) → IsTrue (is_element_width width) → slice_index words place < 2 ^ 64 → slice_index (with_element vlen words register width index value) place < 2 ^ 64
+word-with_element-lt vlen words register width index value place h fits = ⊎_elim one two (cases_eq here place)
   where
     here : ℕ
     here = place_of vlen register (element_word width index)
@@ -92,14 +115,16 @@ word-with_element-lt vlen words register width index value place h all = ⊎_eli
     P k = k < 2 ^ 64
 
     two : (here ≡ place → ⊥) → P (slice_index (with_element vlen words register width index value) place)
-    two ne = subst P (sym (word-with_other vlen words register width index value place ne)) (all place)
+    two ne = subst P (sym (word-with_other vlen words register width index value place ne)) fits
 
-    there : here < length words → P (slice_index (slice_set words here n) here)
-    there within =
-        subst P (sym (get_or-set_same words here n 0 within)) (with_field-lt (slice_index words here) (element_bit width index) width value 64 (element_bit-le width index h) (all here))
+    there : P (slice_index words here) → here < length words → P (slice_index (slice_set words here n) here)
+    there below within =
+        subst P (sym (get_or-set_same words here n 0 within)) (with_field-lt (slice_index words here) (element_bit width index) width value 64 (element_bit-le width index h) below)
 
-    past : length words ≤ here → P (slice_index (slice_set words here n) here)
-    past beyond = subst (λ (ws : List ℕ). P (slice_index ws here)) (sym (set_past words here n beyond)) (all here)
+    past : P (slice_index words here) → length words ≤ here → P (slice_index (slice_set words here n) here)
+    past below beyond = subst (λ (ws : List ℕ). P (slice_index ws here)) (sym (set_past words here n beyond)) below
 
     one : here ≡ place → P (slice_index (with_element vlen words register width index value) place)
-    one e = subst (λ k. P (slice_index (slice_set words here n) k)) e (⊎_elim there past (cases_lt here (length words)))
+    one e =
+        let below = subst (λ k. P (slice_index words k)) (sym e) fits in
+        subst (λ k. P (slice_index (slice_set words here n) k)) e (⊎_elim (there below) (past below) (cases_lt here (length words)))

@@ -1,5 +1,5 @@
 -- Fields of a number, of which one is set.
-use Rattle.std.proofs.Common.{◌≡◌, ℕ, ◌+◌, ◌-◌, ◌*◌, ◌/◌, ◌%◌, ◌^◌, ◌<◌, ◌≤◌, sym, ap, ◌∙◌, arith, pow_pos, mod-lt}
+use Rattle.std.proofs.Common.{◌≡◌, ℕ, zero, suc, ◌+◌, ◌-◌, ◌*◌, ◌/◌, ◌%◌, ◌^◌, ◌<◌, ◌≤◌, sym, ap, ◌∙◌, arith, pow_pos, mod-lt}
 use Rattle.std.proofs.lemmas.Nat.{pow-add, shr_high, mod_low, mod-pow-add, field_of, shr-shr, mul-add-lt, div_below}
 use Rattle.vx_base.specs.Numbers.{field}
 use Rattle.vx_vstate.specs.Registers.{with_field}
@@ -84,3 +84,18 @@ field-split n low first rest =
     ∙ mod-pow-add (n / 2 ^ low) rest first
     ∙ ap (λ k. k % 2 ^ rest * 2 ^ first + n / 2 ^ low % 2 ^ first) (shr-shr n low first)
     ∙ omega arith
+
+-- two numbers with the same fields of one width
+pub same_fields : (m n width count : ℕ) → ((j : ℕ) → j < count → field m (j * width) width ≡ field n (j * width) width) → m % 2 ^ (count * width) ≡ n % 2 ^ (count * width)
+same_fields m n width zero same =
+    let none : zero * width ≡ 0 = omega arith in
+    let one : m % 2 ^ 0 ≡ n % 2 ^ 0 = omega arith in
+    ap (λ k. m % 2 ^ k) none ∙ one ∙ ap (λ k. n % 2 ^ k) (sym none)
+same_fields m n width (suc count) same =
+    let more : suc count * width ≡ width + count * width = omega arith in
+    let fewer = same_fields m n width count (λ j h. same j (omega (arith, h))) in
+    ap (λ k. m % 2 ^ k) more
+    ∙ mod-pow-add m width (count * width)
+    ∙ (λ i. same count (omega arith) i * 2 ^ (count * width) + fewer i)
+    ∙ sym (mod-pow-add n width (count * width))
+    ∙ ap (λ k. n % 2 ^ k) (sym more)

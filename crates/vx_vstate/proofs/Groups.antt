@@ -6,7 +6,7 @@ use Rattle.std.proofs.lemmas.Nat.{pow-add, pow_below, div_below}
 use Rattle.std.proofs.Math.Nat.{mul-div_cancel, mul-le-mul_right, div-mul-le_self, le_of_mul-le-mul_right}
 use Rattle.vx_base.specs.Options.{is_register_length}
 use Rattle.vx_vstate.specs.Vtype.{vlmul, vsew, sew, lmul_eighths, vlmax, is_vtype}
-use Rattle.vx_vstate.specs.Groups.{emul_eighths, registers_of_group}
+use Rattle.vx_vstate.specs.Groups.{emul_eighths, is_group_size, registers_of_group}
 use Rattle.vx_vstate.specs.Registers.{words_of_register, element_word, is_byte_width}
 use Rattle.vx_vstate.proofs.Bytes.{by_width}
 
@@ -158,3 +158,21 @@ mask-in_register vlen vtype index h below =
     let words : vlen ≡ 64 * words_of_register vlen = grind (arith, nat_tests, h) in
     let most = vlmax-le vlen vtype in
     omega arith
+
+size_of : (power : ℕ) → power ≤ 6 → IsTrue (is_group_size (registers_of_group (2 ^ power)))
+size_of zero h = refl
+size_of (suc zero) h = refl
+size_of (suc (suc zero)) h = refl
+size_of (suc (suc (suc zero))) h = refl
+size_of (suc (suc (suc (suc zero)))) h = refl
+size_of (suc (suc (suc (suc (suc zero))))) h = refl
+size_of (suc (suc (suc (suc (suc (suc zero)))))) h = refl
+size_of (suc (suc (suc (suc (suc (suc (suc n))))))) h = absurd (omega (arith, h))
+
+pub group-size : (vtype width : ℕ) → IsTrue (is_byte_width width) → 1 ≤ emul_eighths vtype width → emul_eighths vtype width ≤ 64 → IsTrue (is_group_size (registers_of_group (emul_eighths vtype width)))
+group-size vtype width h some most =
+    let emul = emul-power vtype width h some in
+    ⊎_elim
+    (λ small. let within : emul.power ≤ 6 = omega arith in ap (λ n. is_group_size (registers_of_group n)) emul.is ∙ size_of emul.power within)
+    (λ large. let least : 2 ^ 7 ≤ 2 ^ emul.power = pow_mono large in absurd (omega (arith, emul.is)))
+    (cases_lt emul.power 7)

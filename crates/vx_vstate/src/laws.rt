@@ -1,15 +1,17 @@
 ghost use Rattle.std.specs.Prelude.{◌≡◌, ◌≢◌, ℕ, ◌*◌, ◌/◌, ◌%◌, ◌^◌, ◌<◌, ◌≤◌, List, length, slice_index, IsTrue};
 ghost use Rattle.vx_vstate.specs.State.{VectorState, with_setting, setting_of, reconfigured};
-ghost use Rattle.vx_vstate.specs.Groups.{emul_eighths, registers_of_group};
-ghost use Rattle.vx_vstate.specs.Vtype.{vlmax};
+ghost use Rattle.vx_vstate.specs.Groups.{emul_eighths, is_group_size, registers_of_group};
+ghost use Rattle.vx_vstate.specs.Vtype.{is_vtype, sew, vlmax};
 ghost use Rattle.vx_vstate.specs.declared.avl.Avl.{Avl};
 ghost use Rattle.vx_base.specs.Numbers.{field, from_little_endian};
 ghost use Rattle.vx_base.specs.Options.{is_register_length};
 ghost use Rattle.vx_vstate.specs.Registers.{
   words_of_register,
   place_of,
+  word_at,
   element,
   element_word,
+  element_bit,
   with_element,
   AreApart,
   is_byte_width,
@@ -42,7 +44,12 @@ pub fn other_registers_are_apart()
 pub fn set_element_leaves_words()
     ensures other { (vlen : ℕ) (words : List ℕ) (register width index value place : ℕ) → place_of vlen register (element_word width index) ≢ place → slice_index (with_element vlen words register width index value) place ≡ slice_index words place }
     ensures count { (vlen : ℕ) (words : List ℕ) (register width index value : ℕ) → length (with_element vlen words register width index value) ≡ length words }
-    ensures width { (vlen : ℕ) (words : List ℕ) (register width index value place : ℕ) → IsTrue (is_element_width width) → ((k : ℕ) → slice_index words k < 2 ^ 64) → slice_index (with_element vlen words register width index value) place < 2 ^ 64 }
+    ensures width { (vlen : ℕ) (words : List ℕ) (register width index value place : ℕ) → IsTrue (is_element_width width) → slice_index words place < 2 ^ 64 → slice_index (with_element vlen words register width index value) place < 2 ^ 64 }
+{}
+
+/// A word is its elements of any one width: it is the number below 2^64 that has them as its fields.
+pub fn word_is_its_elements()
+    ensures { (vlen : ℕ) (words : List ℕ) (register width w n : ℕ) → IsTrue (is_element_width width) → word_at vlen words register w < 2 ^ 64 → n < 2 ^ 64 → ((index : ℕ) → element_word width index ≡ w → element vlen words register width index ≡ field n (element_bit width index) width) → word_at vlen words register w ≡ n }
 {}
 
 /// An element of 8, 16, 32 or 64 bits is the number whose bytes, least first, are as many of the registers' bytes from
@@ -61,6 +68,12 @@ pub fn mask_bit_is_of_its_byte()
 pub fn elements_lie_in_their_group()
     ensures group { (vlen vtype width index : ℕ) → IsTrue (is_register_length vlen) → IsTrue (is_byte_width width) → 1 ≤ emul_eighths vtype width → index < vlmax vlen vtype → element_word width index < registers_of_group (emul_eighths vtype width) * words_of_register vlen }
     ensures mask { (vlen vtype index : ℕ) → IsTrue (is_register_length vlen) → index < vlmax vlen vtype → element_word 1 index < words_of_register vlen }
+{}
+
+/// SEW is 8, 16, 32 or 64 bits, and a group whose EMUL is from an eighth to 8 takes 1, 2, 4 or 8 registers.
+pub fn groups_have_sizes()
+    ensures width { (vtype : ℕ) → IsTrue (is_vtype vtype) → IsTrue (is_byte_width (sew vtype)) }
+    ensures registers { (vtype width : ℕ) → IsTrue (is_byte_width width) → 1 ≤ emul_eighths vtype width → emul_eighths vtype width ≤ 64 → IsTrue (is_group_size (registers_of_group (emul_eighths vtype width))) }
 {}
 
 /// A configuration does to an instruction's view of a state what it does to the state.

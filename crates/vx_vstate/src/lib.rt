@@ -19,9 +19,9 @@ mod vtype;
 pub use avl::Avl;
 pub use file::WordFile;
 pub use laws::{
-    element_is_its_bytes, elements_lie_in_their_group, mask_bit_is_of_its_byte,
+    element_is_its_bytes, elements_lie_in_their_group, groups_have_sizes, mask_bit_is_of_its_byte,
     other_elements_stay, other_indices_are_apart, other_registers_are_apart, set_element_is_read,
-    set_element_leaves_words, views_are_configured_alike,
+    set_element_leaves_words, views_are_configured_alike, word_is_its_elements,
 };
 pub use setting::Setting;
 pub use state::VState;

@@ -1,0 +1,9 @@
+pub mod Elements
+pub mod Legality
+pub mod Made
+pub mod Members
+pub mod Sources
+pub mod Standard
+pub mod StandardLists
+pub mod Suits
+pub mod Written
