@@ -6,11 +6,13 @@ ghost use Rattle.vx_operands.specs.Lanes.{answer, are_groups, is_each, numbers_o
 ghost use Rattle.vx_packed.specs.Made.{IsPacking, made};
 ghost use Rattle.vx_packed.specs.declared.elements.Lane.{Lane};
 ghost use Rattle.vx_rows.specs.Families.{operands_of};
+ghost use Rattle.vx_vector.specs.Arithmetic.{words_after};
 ghost use Rattle.vx_vector.specs.Laws.{IsSound, made_word, word_saturates};
 ghost use Rattle.vx_vector.specs.Numbers.{extended_at, plain};
 ghost use Rattle.vx_vector.specs.Reading.{sew_of, destination_width, vs2_width};
 ghost use Rattle.vx_vector.specs.Rules.{rule_of};
 ghost use Rattle.vx_vector.specs.Words.{destination_words};
+ghost use Rattle.vx_vstate.specs.Registers.{word_at};
 
 use crate::form::form_of;
 use crate::kinds::is_plain;
@@ -19,7 +21,7 @@ use vx_bits::{reduce, signed_reading};
 use vx_operands::{Form, even_word, moved_word, plain, whole_word, wide_word};
 use vx_packed::{Made, Packing, Sources, make};
 use vx_rows::{Family, Op};
-use vx_vector::{Places, Word};
+use vx_vector::{Places, Word, words_are_made};
 use vx_vstate::{Setting, WordFile};
 
 /// A number of one width, extended to another.
@@ -164,9 +166,10 @@ pub fn word<S: WordFile>(op: Op, at: &Setting, file: &S, regs: &Places, w: u32) 
     requires same { S.vlen file.now ≡ at.now.vlen }
     requires sound { IsSound (reading (form_of op) at.now regs.now (S.words file.now)) }
     requires within { w < length (destination_words (reading (form_of op) at.now regs.now (S.words file.now))) }
-    ensures value { result.value ≡ made_word (reading (form_of op) at.now regs.now (S.words file.now)) w }
+    ensures value { result.value ≡ word_at at.now.vlen (words_after (reading (form_of op) at.now regs.now (S.words file.now))) regs.now.vd w }
     ensures sat { result.sat ≡ word_saturates (reading (form_of op) at.now regs.now (S.words file.now)) w }
 {
+    words_are_made();
     match op {
         Op::Elem(op) => word_of_form(form_of(op), file, at, regs, w),
         _ => unreachable!(),

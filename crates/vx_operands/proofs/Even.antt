@@ -20,8 +20,9 @@ use Rattle.vx_vstate.specs.Vtype.{vill, vlmax}
 use Rattle.vx_vstate.specs.declared.setting.Setting.{Setting}
 use Rattle.vx_vector.specs.Laws.{IsPlaced, is_absent, per_word}
 use Rattle.vx_vector.specs.Numbers.{is_set}
-use Rattle.vx_vector.specs.Reading.{Reading, sew_of, destination_width, vs2_width, vs1_width, elements_in, count_of, whole_registers, is_unmasked, mask_bit, second_operand, numbers_at}
-use Rattle.vx_vector.specs.Words.{vs1_operand, registers_of_operand, places_of_operand, destination_words}
+use Rattle.vx_vector.specs.Reading.{Reading, is_unmasked_by, sew_of, destination_width, vs2_width, vs1_width, count_in, count_of, whole_registers, mask_bit, numbers_at}
+use Rattle.vx_operands.specs.Forms.{is_unmasked, second_operand}
+use Rattle.vx_vector.specs.Words.{vs1_operand, vs1_operand_by, registers_of_operand, places_of_operand, destination_words}
 use Rattle.vx_operands.specs.Lanes.{AreLanes, AreMaskBits, AreSources, is_single, is_even, numbers_of}
 use Rattle.vx_operands.proofs.Places.{even_element, first_word, in_place}
 
@@ -48,7 +49,7 @@ module _ (r : Reading) (h : IsEvenOf r.first (operands_of r.family)) where
   destination_even = ap (λ o. width_of o (sew_of r)) h.destination
 
   pub count_even : count_of r ≡ r.at.vl
-  count_even = ap (λ o. if nat_eq (whole_registers o) 0 then r.at.vl else elements_in r o) h.destination
+  count_even = ap (λ o. if nat_eq (whole_registers o) 0 then r.at.vl else count_in r o) h.destination
 
   vs2_even : vs2_width r ≡ sew_of r
   vs2_even = ap (λ o. width_of o (sew_of r)) h.vs2
@@ -83,17 +84,17 @@ destination_place r w h placed l =
     in_place r.places.vd (registers_of_operand r (operands_of r.family).destination) w (r.at.vlen / 64) placed.room (subst (λ n. w < n) (words_of_group r (operands_of r.family).destination r.places.vd h) l)
 
 pub vs1_is : (r : Reading) → r.first ≡ Vector → vs1_operand r ≡ (operands_of r.family).vs1
-vs1_is r e = ap (λ (f : First). elim f [ Vector ↦ (operands_of r.family).vs1 | Integer ↦ Absent | Signed ↦ Absent | Unsigned ↦ Absent | Fixed ↦ Absent ]) e
+vs1_is r e = ap (λ (f : First). vs1_operand_by r f) e
 
 -- ---- the mask
 
-vm_false : (v : Vm) (b : Bool) → elim v [ Any ↦ b | Zero ↦ true | One ↦ true ] ≡ false → b ≡ false
-vm_false Any b h = h
-vm_false Zero b h = absurd (true≢false h)
-vm_false One b h = absurd (true≢false h)
+vm_false : (r : Reading) (v : Vm) → is_unmasked_by r v ≡ false → r.places.vm ≡ false
+vm_false r Any h = h
+vm_false r Zero h = absurd (true≢false h)
+vm_false r One h = absurd (true≢false h)
 
 pub masked : (r : Reading) → is_unmasked r ≡ false → r.places.vm ≡ false
-masked r h = vm_false r.vm r.places.vm h
+masked r h = vm_false r r.vm h
 
 pub mask_are : (r : Reading) (w n mask : ℕ) → n ≡ per_word r → AreLanes 1 mask n (λ k. element r.at.vlen r.words 0 1 (w * n + k)) → AreMaskBits r w mask
 mask_are r w n mask e h = subst (λ m. (k : ℕ) → k < m → nat_eq (lane 1 mask k) 1 ≡ mask_bit r (w * m + k)) e (λ k l. ap (λ x. nat_eq x 1) (h k l))

@@ -20,7 +20,8 @@ use Rattle.vx_rows.specs.declared.row.Vm.TheVariants.{Any, Zero, One}
 use Rattle.vx_vstate.specs.Registers.{word_at, place_of, words_of_register, words_of_all, element, element_word}
 use Rattle.vx_vstate.specs.Vtype.{vlmax}
 use Rattle.vx_vector.specs.Laws.{IsPlaced, is_absent, per_word}
-use Rattle.vx_vector.specs.Reading.{Reading, sew_of, destination_width, vs2_width, vs1_width, elements_in, count_of, whole_registers, is_unmasked, mask_bit, second_operand, numbers_at}
+use Rattle.vx_vector.specs.Reading.{Reading, is_unmasked_by, sew_of, destination_width, vs2_width, vs1_width, count_in, count_of, whole_registers, mask_bit, numbers_at}
+use Rattle.vx_operands.specs.Forms.{is_unmasked, second_operand}
 use Rattle.vx_vector.specs.Words.{registers_of_operand, destination_words, places_of_operand}
 use Rattle.vx_operands.specs.Lanes.{AreLanes, AreSources, is_single, is_group, are_groups, is_whole, numbers_of, packing_of, index_at}
 use Rattle.vx_operands.proofs.Places.{even_element, in_place, filled}
@@ -30,7 +31,7 @@ use Rattle.vx_operands.proofs.Even.{single_is, vl-le, zero_lane, words_of_group}
 
 pub record IsGroup (r : Reading) (o : Operand) : Type 0 where
   pub whole : whole_registers o ≡ 0
-  pub elements : elements_in r o ≡ vlmax r.at.vlen r.at.vtype
+  pub elements : count_in r o ≡ vlmax r.at.vlen r.at.vtype
   pub there : not (is_absent o) ≡ true
 
 group_is : (r : Reading) (o : Operand) → IsTrue (is_group o) → IsGroup r o
@@ -56,13 +57,13 @@ groups_of r other o h =
     record { destination = group_is r o.destination two.0; vs2 = group_is r o.vs2 two.1; vs1 = λ e. absurd (cc) }
 
 pub count_of_group : (r : Reading) → IsGroup r (operands_of r.family).destination → count_of r ≡ r.at.vl
-count_of_group r g = ap (λ n. if nat_eq n 0 then r.at.vl else elements_in r (operands_of r.family).destination) g.whole
+count_of_group r g = ap (λ n. if nat_eq n 0 then r.at.vl else count_in r (operands_of r.family).destination) g.whole
 
 -- the word in which an element below vl begins is there
 pub placed_part : (r : Reading) (o : Operand) (register i : ℕ) → IsGroup r o → IsPlaced r o register → i < r.at.vl → place_of r.at.vlen register (element_word (width_of o (sew_of r)) i) < words_of_all r.at.vlen
 placed_part r o register i g placed l =
     let most = vl-le r.at in
-    let below : i < elements_in r o = omega (arith, g.elements) in
+    let below : i < count_in r o = omega (arith, g.elements) in
     in_place register (registers_of_operand r o) (element_word (width_of o (sew_of r)) i) (r.at.vlen / 64) placed.room (placed.within i below)
 
 -- ---- the operands of a word's elements
@@ -98,7 +99,7 @@ count_some width h = grind (arith, h)
 pub record IsWhole (r : Reading) (o : Operand) : Type 0 where
   pub width : width_of o (sew_of r) ≡ sew_of r
   pub registers : registers_of_operand r o ≡ whole_registers o
-  pub elements : elements_in r o ≡ whole_registers o * r.at.vlen / sew_of r
+  pub elements : count_in r o ≡ whole_registers o * r.at.vlen / sew_of r
   pub there : not (is_absent o) ≡ true
 
 whole_is : (r : Reading) (o : Operand) → IsTrue (not (nat_eq (whole_registers o) 0)) → IsWhole r o
@@ -134,10 +135,10 @@ whole_of r o One h =
     }
 
 pub count_of_whole : (r : Reading) → AreWhole r (operands_of r.family) r.vm → count_of r ≡ whole_registers (operands_of r.family).destination * r.at.vlen / sew_of r
-count_of_whole r h = ap (λ (b : Bool). if b then r.at.vl else elements_in r (operands_of r.family).destination) h.some ∙ h.destination.elements
+count_of_whole r h = ap (λ (b : Bool). if b then r.at.vl else count_in r (operands_of r.family).destination) h.some ∙ h.destination.elements
 
 pub whole_unmasked : (r : Reading) → r.vm ≡ One → is_unmasked r ≡ true
-whole_unmasked r e = ap (λ (v : Vm). elim v [ Any ↦ r.places.vm | Zero ↦ true | One ↦ true ]) e
+whole_unmasked r e = ap (λ (v : Vm). is_unmasked_by r v) e
 
 -- a word of whole registers begins before their end
 pub whole_begins : (w n vlen sew : ℕ) → IsTrue (is_width sew) → w < n * (vlen / 64) → w * (64 / sew) < n * vlen / sew

@@ -15,7 +15,8 @@ use Rattle.vx_vstate.specs.Registers.{word_at, element}
 use Rattle.vx_vector.specs.Arithmetic.{given, becomes, becomes_by, has_saturated}
 use Rattle.vx_vector.specs.Laws.{value_after, element_after, per_word, made_word, word_saturates}
 use Rattle.vx_vector.specs.Numbers.{plain}
-use Rattle.vx_vector.specs.Reading.{Reading, sew_of, destination_width, element_of, count_of, is_unmasked, mask_bit, is_active, numbers_at}
+use Rattle.vx_vector.specs.Reading.{Reading, sew_of, destination_width, element_of, count_of, mask_bit, is_active, numbers_at}
+use Rattle.vx_operands.specs.Forms.{is_unmasked}
 use Rattle.vx_vector.specs.Rules.{Rule, rule_of}
 use Rattle.vx_vector.specs.Rules.Rule.{Each, Index, Permute, Reduce, Pack, Put, Tell}
 use Rattle.vx_operands.specs.Lanes.{is_each, answer_by, answer, index_at, numbers_of, AreMaskBits, AreSources, AreMade}
@@ -53,6 +54,10 @@ full_bit k l = eq-eqb (lane 1 (2 ^ 64 - 1) k) 1 (lane_bit (2 ^ 64 - 1) k ∙ bit
 truth_bit : (b : Bool) → nat_eq (truth b % 2 ^ 1) 1 ≡ b
 truth_bit true = refl
 truth_bit false = refl
+
+truth_one : (b : Bool) → nat_eq (truth b) 1 ≡ b
+truth_one true = refl
+truth_one false = refl
 
 and_none : (x y : Bool) → ((x && false) && y) ≡ false
 and_none true y = refl
@@ -117,15 +122,14 @@ let_in r w bits mask k all some is l small =
 pub record AreActive (r : Reading) (w lanes : ℕ) : Type 0 where
   pub is : (k : ℕ) → k < per_word r → nat_eq (lane 1 lanes k) 1 ≡ is_active r (index_at r w k)
 
-pub active_are : Element → (r : Reading) (w lanes bits mask first from to : ℕ) → IsTrue (is_width (destination_width r)) → lanes ≡ joined 1 64 (λ k. truth ((leb from (first + k) && ltb (first + k) to) && nat_eq (lane 1 bits k) 1)) → first ≡ w * per_word r → from ≡ r.at.vstart → to ≡ count_of r → (is_unmasked r ≡ true → bits ≡ 2 ^ 64 - 1) → (is_unmasked r ≡ false → bits ≡ mask) → (is_unmasked r ≡ false → AreMaskBits r w mask) → AreActive r w lanes
-active_are element r w lanes bits mask first from to width e p f t all some is = record {
+pub active_are : (r : Reading) (w lanes bits mask n to : ℕ) → n ≡ per_word r → per_word r ≤ 64 → ((k : ℕ) → k < n → lane 1 lanes k ≡ truth ((leb r.at.vstart (w * n + k) && ltb (w * n + k) to) && nat_eq (lane 1 bits k) 1)) → to ≡ count_of r → (is_unmasked r ≡ true → bits ≡ 2 ^ 64 - 1) → (is_unmasked r ≡ false → bits ≡ mask) → (is_unmasked r ≡ false → AreMaskBits r w mask) → AreActive r w lanes
+active_are r w lanes bits mask n to e most h t all some is = record {
   is = λ k l.
-      let most = per_word-le (destination_width r) width in
       let small : k < 64 = omega arith in
-      ap (λ x. nat_eq (lane 1 x k) 1) e
-      ∙ ap (λ x. nat_eq x 1) (element 1 64 (λ k. truth ((leb from (first + k) && ltb (first + k) to) && nat_eq (lane 1 bits k) 1)) k small)
-      ∙ truth_bit ((leb from (first + k) && ltb (first + k) to) && nat_eq (lane 1 bits k) 1)
-      ∙ (λ i. (leb (f i) (p i + k) && ltb (p i + k) (t i)) && let_in r w bits mask k all some is l small i);
+      let inside : k < n = subst (λ m. k < m) (sym e) l in
+      ap (λ x. nat_eq x 1) (h k inside)
+      ∙ truth_one ((leb r.at.vstart (w * n + k) && ltb (w * n + k) to) && nat_eq (lane 1 bits k) 1)
+      ∙ (λ i. (leb r.at.vstart (w * e i + k) && ltb (w * e i + k) (t i)) && let_in r w bits mask k all some is l small i);
 }
 
 -- ---- the word that is made

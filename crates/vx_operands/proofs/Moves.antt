@@ -8,7 +8,8 @@ use Rattle.vx_rows.specs.declared.family.Family.TheVariants.{VmvV}
 use Rattle.vx_rows.specs.declared.family.Operand.TheVariants.{Single}
 use Rattle.vx_rows.specs.declared.row.First.TheVariants.{Vector}
 use Rattle.vx_vector.specs.Laws.{is_absent, per_word}
-use Rattle.vx_vector.specs.Reading.{Reading, sew_of, destination_width, vs1_width, elements_in, count_of, whole_registers, second_operand, numbers_at}
+use Rattle.vx_vector.specs.Reading.{Reading, sew_of, destination_width, vs1_width, count_in, count_of, whole_registers, numbers_at}
+use Rattle.vx_operands.specs.Forms.{second_operand}
 use Rattle.vx_vector.specs.Rules.{rule_of}
 use Rattle.vx_operands.specs.Lanes.{AreLanes, AreMade, answer, is_each, index_at}
 use Rattle.vx_operands.proofs.Merging.{copied_are}
@@ -27,7 +28,7 @@ module _ (r : Reading) (e : r.family ≡ VmvV) where
   moves_there = ap (λ (f : Family). not (is_absent (operands_of f).destination)) e
 
   pub moves_count : count_of r ≡ r.at.vl
-  moves_count = ap (λ (f : Family). if nat_eq (whole_registers (operands_of f).destination) 0 then r.at.vl else elements_in r (operands_of f).destination) e
+  moves_count = ap (λ (f : Family). if nat_eq (whole_registers (operands_of f).destination) 0 then r.at.vl else count_in r (operands_of f).destination) e
 
   pub moves_each : IsTrue (is_each (rule_of r.family))
   moves_each = ap (λ (f : Family). is_each (rule_of f)) e

@@ -2,7 +2,7 @@ ghost use Rattle.std.specs.Prelude.{◌≡◌, List, ℕ, IsTrue};
 ghost use Rattle.vx_bits.specs.Width.{is_width};
 ghost use Rattle.vx_operands.specs.Forms.{reading};
 ghost use Rattle.vx_vector.specs.Numbers.{is_less_at, plain};
-ghost use Rattle.vx_vector.specs.Reading.{is_unmasked};
+ghost use Rattle.vx_operands.specs.Forms.{is_unmasked};
 ghost use Rattle.vx_vstate.specs.declared.setting.Setting.{Setting};
 
 use vx_bits::{Sat, signed_reading};

@@ -7,7 +7,8 @@ ghost use Rattle.vx_packed.specs.declared.elements.Made.{Made};
 ghost use Rattle.vx_packed.specs.declared.elements.Sources.{Sources};
 ghost use Rattle.vx_rows.specs.Families.{operands_of};
 ghost use Rattle.vx_vector.specs.Laws.{IsSound, made_word, per_word, word_saturates};
-ghost use Rattle.vx_vector.specs.Reading.{Reading, sew_of, destination_width, count_of, is_unmasked};
+ghost use Rattle.vx_vector.specs.Reading.{Reading, sew_of, destination_width, count_of};
+ghost use Rattle.vx_operands.specs.Forms.{is_unmasked};
 ghost use Rattle.vx_vector.specs.Rules.{rule_of};
 ghost use Rattle.vx_vector.specs.Words.{destination_words};
 ghost use Rattle.vx_vstate.specs.Registers.{word_at};
@@ -65,11 +66,11 @@ pub fn merged_word(
 {
     joined_by_elements();
     let per_word = 64 / width;
-    let first = u64::from(w * per_word);
     let lanes = active_lanes(
-        first,
-        u64::from(at.vstart),
-        u64::from(count),
+        per_word,
+        w * per_word,
+        at.vstart,
+        count,
         let_in(form, regs, mask),
     );
     Word {

@@ -4,7 +4,8 @@ ghost use Rattle.vx_bits.specs.Width.{is_width};
 ghost use Rattle.vx_operands.specs.Forms.{reading};
 ghost use Rattle.vx_operands.specs.Lanes.{AreLanes, FillsPart};
 ghost use Rattle.vx_rows.specs.declared.row.First.TheVariants.{Vector};
-ghost use Rattle.vx_vector.specs.Reading.{sew_of, vs1_width, second_operand};
+ghost use Rattle.vx_vector.specs.Reading.{sew_of, vs1_width};
+ghost use Rattle.vx_operands.specs.Forms.{second_operand};
 ghost use Rattle.vx_vstate.specs.Registers.{words_of_register, words_of_all, place_of, word_at, element, element_word};
 
 use crate::form::Form;

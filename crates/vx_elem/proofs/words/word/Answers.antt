@@ -13,7 +13,7 @@ pub word_of_form-requires-clause-within : goal.word_of_form-requires-clause-with
 word_of_form-requires-clause-within g c = subst (λ (f : Form). c.args.w < length (destination_words (reading f c.args.at.now c.args.regs.now (g.S.WordFile.words c.args.file.now)))) (sym (c.form_of.ensures.is ∙ sym (ap form_of c.in-Elem.is))) c.requires.within
 
 pub returns-clause-value : goal.returns-clause-value
-returns-clause-value g c = c.word_of_form.ensures.value ∙ ap (λ (f : Form). made_word (reading f c.args.at.now c.args.regs.now (g.S.WordFile.words c.args.file.now)) c.args.w) (c.form_of.ensures.is ∙ sym (ap form_of c.in-Elem.is))
+returns-clause-value g c = c.word_of_form.ensures.value ∙ ap (λ (f : Form). made_word (reading f c.args.at.now c.args.regs.now (g.S.WordFile.words c.args.file.now)) c.args.w) (c.form_of.ensures.is ∙ sym (ap form_of c.in-Elem.is)) ∙ sym (c.words_are_made.ensures.value (reading (form_of c.args.op) c.args.at.now c.args.regs.now (g.S.WordFile.words c.args.file.now)) c.args.w c.requires.sound c.requires.within)
 
 pub returns-clause-sat : goal.returns-clause-sat
 returns-clause-sat g c = c.word_of_form.ensures.sat ∙ ap (λ (f : Form). word_saturates (reading f c.args.at.now c.args.regs.now (g.S.WordFile.words c.args.file.now)) c.args.w) (c.form_of.ensures.is ∙ sym (ap form_of c.in-Elem.is))

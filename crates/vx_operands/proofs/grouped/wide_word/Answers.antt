@@ -12,7 +12,8 @@ use Rattle.vx_operands.specs.Forms.{reading}
 use Rattle.vx_operands.specs.Lanes.{AreLanes, AreSources, answer, numbers_of, packing_of}
 use Rattle.vx_vstate.specs.Registers.{place_of, words_of_all, element, element_word}
 use Rattle.vx_vector.specs.Laws.{IsPlaced, per_word}
-use Rattle.vx_vector.specs.Reading.{Reading, sew_of, destination_width, second_operand}
+use Rattle.vx_vector.specs.Reading.{Reading, sew_of, destination_width}
+use Rattle.vx_operands.specs.Forms.{second_operand}
 use Rattle.vx_operands.proofs.Places.{word_small, registers_small, per_word-le}
 use Rattle.vx_operands.proofs.Even.{destination_place, vs1_is, masked, mask_are}
 use Rattle.vx_operands.proofs.Merging.{made_are}

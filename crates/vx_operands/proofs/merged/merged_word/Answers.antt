@@ -3,7 +3,9 @@ use Rattle.std.proofs.Common.{◌≡◌, ℕ, ◌*◌, ◌/◌, ◌∙◌, ap, I
 use Rattle.vx_bits.specs.Width.{is_width}
 use Rattle.vx_operands.specs.Forms.{reading}
 use Rattle.vx_operands.specs.Lanes.{AreMaskBits}
-use Rattle.vx_vector.specs.Reading.{destination_width, count_of, is_unmasked}
+use Rattle.vx_vector.specs.Reading.{destination_width, count_of}
+use Rattle.vx_operands.specs.Forms.{is_unmasked}
+use Rattle.vx_operands.proofs.Places.{per_word-le}
 use Rattle.vx_operands.proofs.Merging.{AreActive, active_are, merged_value, merged_sat}
 use Rattle.vx_operands.proofs.merged.merged_word.Goals as goal
 
@@ -11,12 +13,14 @@ pub returns-clause-value : goal.returns-clause-value
 returns-clause-value c words each width count mask old new =
     let r = reading c.args.form c.args.at.now c.args.regs.now words in
     let is = subst (λ d. IsTrue (is_width d)) width c.requires.width in
-    let active = active_are c.joined_by_elements.ensures.element r c.args.w c.active_lanes-lanes.result c.let_in.result c.args.mask c.from-first.result c.from.result c.from-2.result is c.active_lanes-lanes.ensures (c.from-first.ensures ∙ ap (λ d. c.args.w * (64 / d)) width) c.from.ensures (c.from-2.ensures ∙ count) (c.let_in.ensures.all c.args.at.now words) (c.let_in.ensures.some c.args.at.now words) mask in
+    let most = per_word-le (destination_width r) is in
+    let active = active_are r c.args.w c.active_lanes-lanes.result c.let_in.result c.args.mask (64 / c.args.width) c.args.count (ap (λ d. 64 / d) width) most c.active_lanes-lanes.ensures count (c.let_in.ensures.all c.args.at.now words) (c.let_in.ensures.some c.args.at.now words) mask in
     c.merge.ensures.value ∙ merged_value c.joined_by_elements.ensures.same r c.args.w c.args.width c.active_lanes-lanes.result c.args.old c.args.made each is width active old new
 
 pub returns-clause-sat : goal.returns-clause-sat
 returns-clause-sat c words each width count mask new =
     let r = reading c.args.form c.args.at.now c.args.regs.now words in
     let is = subst (λ d. IsTrue (is_width d)) width c.requires.width in
-    let active = active_are c.joined_by_elements.ensures.element r c.args.w c.active_lanes-lanes.result c.let_in.result c.args.mask c.from-first.result c.from.result c.from-2.result is c.active_lanes-lanes.ensures (c.from-first.ensures ∙ ap (λ d. c.args.w * (64 / d)) width) c.from.ensures (c.from-2.ensures ∙ count) (c.let_in.ensures.all c.args.at.now words) (c.let_in.ensures.some c.args.at.now words) mask in
+    let most = per_word-le (destination_width r) is in
+    let active = active_are r c.args.w c.active_lanes-lanes.result c.let_in.result c.args.mask (64 / c.args.width) c.args.count (ap (λ d. 64 / d) width) most c.active_lanes-lanes.ensures count (c.let_in.ensures.all c.args.at.now words) (c.let_in.ensures.some c.args.at.now words) mask in
     c.any_lane.ensures ∙ merged_sat r c.args.w c.args.width c.active_lanes-lanes.result c.args.made each width active new
