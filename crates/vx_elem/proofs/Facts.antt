@@ -19,7 +19,7 @@ use Rattle.vx_vstate.specs.Registers.{is_element_width}
 use Rattle.vx_vector.specs.Laws.{is_absent}
 use Rattle.vx_vector.specs.Rules.{rule_of}
 use Rattle.vx_operands.specs.Lanes.{FillsPart, is_each, is_single, is_even, is_group, are_groups, is_whole}
-use Rattle.vx_elem.specs.Kinds.{is_elem, is_plain, is_move, is_copy, is_extension, is_other}
+use Rattle.vx_elem.specs.Kinds.{is_elem, is_plain, is_copy, is_extension, is_other}
 
 -- ---- operands of SEW
 

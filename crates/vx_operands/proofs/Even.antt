@@ -1,5 +1,5 @@
 -- Rows whose operands all have elements of SEW.
-use Rattle.std.proofs.Common.{◌≡◌, ℕ, zero, suc, ◌+◌, ◌-◌, ◌*◌, ◌/◌, ◌%◌, ◌^◌, ◌<◌, ◌≤◌, Bool, true, false, not, ◌&&◌, ◌||◌, IsTrue, nat_eq, if◌then◌else◌, length, refl, sym, ap, ◌∙◌, subst, ⊎_elim, arith, eq-eqb}
+use Rattle.std.proofs.Common.{◌≡◌, ℕ, ◌+◌, ◌*◌, ◌/◌, ◌<◌, ◌≤◌, Bool, true, false, not, ◌&&◌, IsTrue, nat_eq, if◌then◌else◌, length, refl, sym, ap, ◌∙◌, subst, ⊎_elim, arith}
 use Rattle.std.proofs.lemmas.List.FromFn.{length-range_with_len}
 use Rattle.std.proofs.lemmas.Bool.{cases_Bool, false≢true, true≢false, and_parts}
 use Rattle.vx_bits.specs.Width.{is_width}
@@ -12,14 +12,13 @@ use Rattle.vx_rows.specs.declared.family.Operand.{Operand}
 use Rattle.vx_rows.specs.declared.family.Operand.TheVariants.{Single, Absent}
 use Rattle.vx_rows.specs.declared.family.Operands.{Operands}
 use Rattle.vx_rows.specs.declared.row.First.{First}
-use Rattle.vx_rows.specs.declared.row.First.TheVariants.{Vector, Integer, Signed, Unsigned, Fixed}
+use Rattle.vx_rows.specs.declared.row.First.TheVariants.{Vector}
 use Rattle.vx_rows.specs.declared.row.Vm.{Vm}
 use Rattle.vx_rows.specs.declared.row.Vm.TheVariants.{Any, Zero, One}
-use Rattle.vx_vstate.specs.Registers.{word_at, place_of, words_of_register, words_of_all, element, element_word}
+use Rattle.vx_vstate.specs.Registers.{word_at, place_of, words_of_register, words_of_all, element}
 use Rattle.vx_vstate.specs.Vtype.{vill, vlmax}
 use Rattle.vx_vstate.specs.declared.setting.Setting.{Setting}
 use Rattle.vx_vector.specs.Laws.{IsPlaced, is_absent, per_word}
-use Rattle.vx_vector.specs.Numbers.{is_set}
 use Rattle.vx_vector.specs.Reading.{Reading, is_unmasked_by, sew_of, destination_width, vs2_width, vs1_width, count_in, count_of, whole_registers, mask_bit, numbers_at}
 use Rattle.vx_operands.specs.Forms.{is_unmasked, second_operand}
 use Rattle.vx_vector.specs.Words.{vs1_operand, vs1_operand_by, registers_of_operand, places_of_operand, destination_words}

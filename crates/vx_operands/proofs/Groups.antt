@@ -1,31 +1,29 @@
 -- Rows whose operands are groups of elements of several widths, and whole registers.
-use Rattle.std.proofs.Common.{◌≡◌, ℕ, zero, suc, ◌+◌, ◌-◌, ◌*◌, ◌/◌, ◌%◌, ◌^◌, ◌<◌, ◌≤◌, Bool, true, false, not, ◌&&◌, ◌||◌, IsTrue, nat_eq, max, if◌then◌else◌, refl, sym, ap, ◌∙◌, subst, ⊎_elim, arith, length, ne_eqb, mul-le-mul_right}
-use Rattle.std.proofs.lemmas.Bool.{false≢true, true≢false, and_parts, eqb-true, cases_Bool}
+use Rattle.std.proofs.Common.{◌≡◌, ℕ, suc, ◌+◌, ◌*◌, ◌/◌, ◌<◌, ◌≤◌, Bool, true, false, not, ◌&&◌, IsTrue, nat_eq, if◌then◌else◌, refl, sym, ap, ◌∙◌, ⊎_elim, arith, mul-le-mul_right}
+use Rattle.std.proofs.lemmas.Bool.{false≢true, and_parts, eqb-true, cases_Bool}
 use Rattle.std.proofs.Math.Nat.{mul-le-mul_left}
 use Rattle.std.proofs.lemmas.Nat.{le-div}
 use Rattle.vx_bits.specs.Width.{is_width}
 use Rattle.vx_packed.specs.Joined.{lane}
-use Rattle.vx_packed.specs.Made.{lane_of}
-use Rattle.vx_packed.specs.declared.elements.Packing.{Packing}
 use Rattle.vx_packed.specs.declared.elements.Sources.{Sources}
-use Rattle.vx_legal.specs.Groups.{width_of, eighths_of}
+use Rattle.vx_legal.specs.Groups.{width_of}
 use Rattle.vx_rows.specs.Families.{operands_of}
 use Rattle.vx_rows.specs.declared.family.Operand.{Operand}
-use Rattle.vx_rows.specs.declared.family.Operand.TheVariants.{Absent, Single, Double, Half, Quarter, Eighth, Whole1, Whole2, Whole4, Whole8}
+use Rattle.vx_rows.specs.declared.family.Operand.TheVariants.{Single, Double, Half, Quarter, Eighth, Whole1, Whole2, Whole4, Whole8}
 use Rattle.vx_rows.specs.declared.family.Operands.{Operands}
 use Rattle.vx_rows.specs.declared.row.First.{First}
 use Rattle.vx_rows.specs.declared.row.First.TheVariants.{Vector}
 use Rattle.vx_rows.specs.declared.row.Vm.{Vm}
 use Rattle.vx_rows.specs.declared.row.Vm.TheVariants.{Any, Zero, One}
-use Rattle.vx_vstate.specs.Registers.{word_at, place_of, words_of_register, words_of_all, element, element_word}
+use Rattle.vx_vstate.specs.Registers.{word_at, place_of, words_of_all, element, element_word}
 use Rattle.vx_vstate.specs.Vtype.{vlmax}
 use Rattle.vx_vector.specs.Laws.{IsPlaced, is_absent, per_word}
-use Rattle.vx_vector.specs.Reading.{Reading, is_unmasked_by, sew_of, destination_width, vs2_width, vs1_width, count_in, count_of, whole_registers, mask_bit, numbers_at}
+use Rattle.vx_vector.specs.Reading.{Reading, is_unmasked_by, sew_of, destination_width, vs2_width, count_in, count_of, whole_registers, mask_bit}
 use Rattle.vx_operands.specs.Forms.{is_unmasked, second_operand}
-use Rattle.vx_vector.specs.Words.{registers_of_operand, destination_words, places_of_operand}
-use Rattle.vx_operands.specs.Lanes.{AreLanes, AreSources, is_single, is_group, are_groups, is_whole, numbers_of, packing_of, index_at}
+use Rattle.vx_vector.specs.Words.{registers_of_operand}
+use Rattle.vx_operands.specs.Lanes.{AreLanes, AreSources, is_single, is_group, are_groups, is_whole, packing_of}
 use Rattle.vx_operands.proofs.Places.{even_element, in_place, filled}
-use Rattle.vx_operands.proofs.Even.{single_is, vl-le, zero_lane, words_of_group}
+use Rattle.vx_operands.proofs.Even.{single_is, vl-le, zero_lane}
 
 -- ---- groups
 

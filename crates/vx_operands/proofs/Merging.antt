@@ -1,5 +1,5 @@
 -- A word of the destination by its lanes: active elements are new, and others old.
-use Rattle.std.proofs.Common.{◌≡◌, ℕ, zero, suc, ◌+◌, ◌-◌, ◌*◌, ◌/◌, ◌%◌, ◌^◌, ◌<◌, ◌≤◌, Bool, true, false, not, ◌&&◌, ◌||◌, IsTrue, nat_eq, leb, ltb, if◌then◌else◌, refl, sym, ap, ◌∙◌, subst, ⊎_elim, arith, eq-eqb, le-ltb, mod-eq_of_lt, mod-lt, pow_pos}
+use Rattle.std.proofs.Common.{◌≡◌, ℕ, zero, suc, ◌+◌, ◌-◌, ◌*◌, ◌/◌, ◌%◌, ◌^◌, ◌<◌, ◌≤◌, Bool, true, false, ◌&&◌, ◌||◌, IsTrue, nat_eq, leb, ltb, if◌then◌else◌, refl, sym, ap, ◌∙◌, subst, ⊎_elim, arith, eq-eqb, le-ltb, mod-eq_of_lt, mod-lt, pow_pos}
 use Rattle.std.specs.Int.{bit_at}
 use Rattle.std.proofs.Math.Nat.{mod-mod}
 use Rattle.std.proofs.lemmas.Bool.{cases_Bool, false≢true}
@@ -18,9 +18,9 @@ use Rattle.vx_vector.specs.Numbers.{plain}
 use Rattle.vx_vector.specs.Reading.{Reading, sew_of, destination_width, element_of, count_of, mask_bit, is_active, numbers_at}
 use Rattle.vx_operands.specs.Forms.{is_unmasked}
 use Rattle.vx_vector.specs.Rules.{Rule, rule_of}
-use Rattle.vx_vector.specs.Rules.Rule.{Each, Index, Permute, Reduce, Pack, Put, Tell}
+use Rattle.vx_vector.specs.Rules.Rule.{Each}
 use Rattle.vx_operands.specs.Lanes.{is_each, answer_by, answer, index_at, numbers_of, AreMaskBits, AreSources, AreMade}
-use Rattle.vx_operands.proofs.Places.{filled, per_word-le, even_element}
+use Rattle.vx_operands.proofs.Places.{filled, even_element}
 
 -- ---- the laws of elements that are joined
 

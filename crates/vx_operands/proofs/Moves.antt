@@ -1,12 +1,10 @@
 -- vmv.v.
-use Rattle.std.proofs.Common.{◌≡◌, ℕ, ◌+◌, ◌*◌, ◌/◌, ◌<◌, Bool, true, false, not, IsTrue, nat_eq, if◌then◌else◌, refl, sym, ap, ◌∙◌, subst}
+use Rattle.std.proofs.Common.{◌≡◌, ℕ, ◌+◌, ◌*◌, ◌/◌, true, not, IsTrue, nat_eq, if◌then◌else◌, ap, subst}
 use Rattle.vx_legal.specs.Groups.{width_of}
-use Rattle.vx_packed.specs.declared.elements.Made.{Made}
 use Rattle.vx_rows.specs.Families.{operands_of}
 use Rattle.vx_rows.specs.declared.family.Family.{Family}
 use Rattle.vx_rows.specs.declared.family.Family.TheVariants.{VmvV}
 use Rattle.vx_rows.specs.declared.family.Operand.TheVariants.{Single}
-use Rattle.vx_rows.specs.declared.row.First.TheVariants.{Vector}
 use Rattle.vx_vector.specs.Laws.{is_absent, per_word}
 use Rattle.vx_vector.specs.Reading.{Reading, sew_of, destination_width, vs1_width, count_in, count_of, whole_registers, numbers_at}
 use Rattle.vx_operands.specs.Forms.{second_operand}

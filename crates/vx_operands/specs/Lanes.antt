@@ -19,7 +19,7 @@ use Rattle.vx_vector.specs.Laws.{per_word}
 use Rattle.vx_vector.specs.Numbers.{Numbers, plain}
 use Rattle.vx_vector.specs.Reading.{Reading, destination_width, is_active, numbers_at, mask_bit, sew_of, vs2_width, whole_registers}
 use Rattle.vx_vector.specs.Rules.{Rule, rule_of}
-use Rattle.vx_vector.specs.Rules.Rule.{Each, Index, Permute, Reduce, Pack, Put, Tell}
+use Rattle.vx_vector.specs.Rules.Rule.{Each}
 
 -- the first lanes of a word, so many, are these numbers
 abbrev pub AreLanes : (width word count : ℕ) → (f : ℕ → ℕ) → Type 0

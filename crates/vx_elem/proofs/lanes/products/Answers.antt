@@ -1,10 +1,9 @@
 -- Lane by lane, each family's rule.
-use Rattle.std.proofs.Common.{◌≡◌, ℕ, IsTrue, sym, ap, ◌∙◌, rules, arith}
+use Rattle.std.proofs.Common.{sym, ap, ◌∙◌, rules}
 use Rattle.vx_packed.specs.Made.{even_packing, made}
 use Rattle.vx_rows.specs.declared.family.Family.{Family}
 use Rattle.vx_rows.specs.declared.family.Family.TheVariants.{Vmul, Vmulh, Vmulhu, Vmulhsu, Vmadd, Vnmsub, Vmacc, Vnmsac}
 use Rattle.vx_operands.specs.Lanes.{answer, numbers_of}
-use Rattle.vx_elem.proofs.Left.{no_product}
 use Rattle.vx_elem.proofs.lanes.products.Goals as goal
 
 pub returns-in-Vmul : goal.returns-in-Vmul

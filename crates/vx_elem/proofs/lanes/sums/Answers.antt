@@ -1,10 +1,9 @@
 -- Lane by lane, each family's rule.
-use Rattle.std.proofs.Common.{◌≡◌, ℕ, IsTrue, sym, ap, ◌∙◌, rules, arith}
+use Rattle.std.proofs.Common.{sym, ap, ◌∙◌, rules}
 use Rattle.vx_packed.specs.Made.{even_packing, made}
 use Rattle.vx_rows.specs.declared.family.Family.{Family}
 use Rattle.vx_rows.specs.declared.family.Family.TheVariants.{Vadd, Vsub, Vrsub, Vminu, Vmin, Vmaxu, Vmax}
 use Rattle.vx_operands.specs.Lanes.{answer, numbers_of}
-use Rattle.vx_elem.proofs.Left.{no_sum}
 use Rattle.vx_elem.proofs.lanes.sums.Goals as goal
 
 pub returns-in-Vadd : goal.returns-in-Vadd

@@ -1,13 +1,13 @@
 -- The widths fit, and each lane is extended.
-use Rattle.std.proofs.Common.{◌≡◌, ℕ, ◌*◌, ◌/◌, ◌<◌, ◌≤◌, IsTrue, sym, ap, ◌∙◌, subst, refl, rules, arith, if◌then◌else◌}
+use Rattle.std.proofs.Common.{◌≡◌, ◌/◌, IsTrue, sym, ◌∙◌, subst, rules, if◌then◌else◌}
 use Rattle.vx_vector.specs.Numbers.{extended_at, plain}
 use Rattle.vx_packed.specs.Made.{made}
 use Rattle.vx_packed.specs.declared.elements.Packing.{Packing}
 use Rattle.vx_rows.specs.Families.{operands_of}
 use Rattle.vx_vstate.specs.Registers.{is_element_width}
 use Rattle.vx_operands.specs.Forms.{reading}
-use Rattle.vx_vector.specs.Reading.{Reading, vs2_width}
-use Rattle.vx_elem.proofs.Facts.{Fits, fits, group_width, vs2_group, even_some}
+use Rattle.vx_vector.specs.Reading.{vs2_width}
+use Rattle.vx_elem.proofs.Facts.{fits, group_width, vs2_group, even_some}
 use Rattle.vx_elem.proofs.words.extended_word.Goals as goal
 
 pub wide_word-requires-clause-widths : goal.wide_word-requires-clause-widths

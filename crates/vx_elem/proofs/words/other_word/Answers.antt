@@ -1,15 +1,14 @@
 -- Each family on its own.
-use Rattle.std.proofs.Common.{◌≡◌, ℕ, ◌*◌, ◌/◌, ◌<◌, ◌≤◌, IsTrue, sym, ap, ◌∙◌, subst, refl, arith}
+use Rattle.std.proofs.Common.{◌/◌, sym, ap, ◌∙◌}
 use Rattle.vx_legal.specs.Groups.{width_of}
 use Rattle.vx_rows.specs.Families.{operands_of}
 use Rattle.vx_rows.specs.declared.family.Family.{Family}
-use Rattle.vx_rows.specs.declared.family.Family.TheVariants.{VmvV, Vmv1r, Vmv2r, Vmv4r, Vmv8r, VzextVf8, VsextVf8, VzextVf4, VsextVf4, VzextVf2, VsextVf2}
 use Rattle.vx_operands.specs.Forms.{reading}
 use Rattle.vx_operands.specs.Lanes.{answer, is_each, numbers_of}
-use Rattle.vx_vector.specs.Reading.{Reading, sew_of, whole_registers}
+use Rattle.vx_vector.specs.Reading.{sew_of, whole_registers}
 use Rattle.vx_vector.specs.Rules.{rule_of}
 use Rattle.vx_elem.specs.Kinds.{is_copy, is_extension}
-use Rattle.vx_elem.proofs.Facts.{copy_whole, extension_groups, no_other}
+use Rattle.vx_elem.proofs.Facts.{copy_whole, extension_groups}
 use Rattle.vx_elem.proofs.words.other_word.Goals as goal
 
 pub whole_word-requires-clause-each : goal.whole_word-requires-clause-each

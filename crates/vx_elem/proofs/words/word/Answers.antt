@@ -1,5 +1,5 @@
 -- The form is that of the operation.
-use Rattle.std.proofs.Common.{◌≡◌, ◌<◌, IsTrue, length, sym, ap, ◌∙◌, subst}
+use Rattle.std.proofs.Common.{◌<◌, length, sym, ap, ◌∙◌, subst}
 use Rattle.vx_operands.specs.Forms.{form_of, reading}
 use Rattle.vx_operands.specs.declared.form.Form.{Form}
 use Rattle.vx_vector.specs.Laws.{IsSound, made_word, word_saturates}

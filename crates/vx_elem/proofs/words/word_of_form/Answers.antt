@@ -1,5 +1,5 @@
 -- Rows whose operands have elements of SEW, and others.
-use Rattle.std.proofs.Common.{◌≡◌, Bool, true, false, ◌||◌, IsTrue, sym, ap, ◌∙◌, rules}
+use Rattle.std.proofs.Common.{◌≡◌, ◌||◌, sym, ap, ◌∙◌, rules}
 use Rattle.vx_packed.specs.Made.{even_packing, made}
 use Rattle.vx_operands.specs.Lanes.{answer, numbers_of}
 use Rattle.vx_elem.specs.Kinds.{is_other}

@@ -1,8 +1,7 @@
 -- All operands are as many registers.
-use Rattle.std.proofs.Common.{◌≡◌, ℕ, ◌+◌, ◌*◌, ◌/◌, ◌<◌, ◌≤◌, ◌∙◌, sym, ap, IsTrue, subst, false, true, not, arith}
+use Rattle.std.proofs.Common.{◌≡◌, ℕ, ◌+◌, ◌*◌, ◌/◌, ◌<◌, ◌∙◌, sym, ap, IsTrue, subst}
 use Rattle.std.proofs.lemmas.Bool.{true≢false}
 use Rattle.vx_bits.specs.Width.{is_width}
-use Rattle.vx_legal.specs.Groups.{width_of}
 use Rattle.vx_packed.specs.Joined.{lane}
 use Rattle.vx_rows.specs.Families.{operands_of}
 use Rattle.vx_operands.specs.Forms.{reading}
@@ -10,9 +9,9 @@ use Rattle.vx_operands.specs.Lanes.{AreMade, answer, index_at}
 use Rattle.vx_vstate.specs.Registers.{word_at, element}
 use Rattle.vx_vector.specs.Laws.{per_word}
 use Rattle.vx_vector.specs.Numbers.{plain}
-use Rattle.vx_vector.specs.Reading.{Reading, sew_of, destination_width, vs2_width, numbers_at, whole_registers}
+use Rattle.vx_vector.specs.Reading.{Reading, sew_of, destination_width, vs2_width, numbers_at}
 use Rattle.vx_vector.specs.Words.{registers_of_operand}
-use Rattle.vx_operands.proofs.Places.{word_small, registers_small, per_word-le, in_place, even_element}
+use Rattle.vx_operands.proofs.Places.{in_place, even_element}
 use Rattle.vx_operands.proofs.Even.{destination_place, words_of_group}
 use Rattle.vx_operands.proofs.Merging.{copied_are}
 use Rattle.vx_operands.proofs.Groups.{whole_of, count_of_whole, whole_unmasked, whole_begins}

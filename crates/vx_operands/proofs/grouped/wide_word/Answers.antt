@@ -1,5 +1,5 @@
 -- As many elements of each operand as make a word.
-use Rattle.std.proofs.Common.{◌≡◌, ℕ, ◌+◌, ◌*◌, ◌/◌, ◌<◌, ◌≤◌, ◌∙◌, sym, ap, IsTrue, subst, false, true, not, arith, refl}
+use Rattle.std.proofs.Common.{◌≡◌, ◌+◌, ◌*◌, ◌/◌, ◌<◌, ◌≤◌, ◌∙◌, sym, ap, IsTrue, subst, false, arith, refl}
 use Rattle.vx_bits.specs.Width.{is_width}
 use Rattle.vx_packed.specs.Made.{made}
 use Rattle.vx_packed.specs.declared.elements.Packing.{Packing}
@@ -9,10 +9,10 @@ use Rattle.vx_rows.specs.Families.{operands_of}
 use Rattle.vx_rows.specs.declared.family.Operand.{Operand}
 use Rattle.vx_rows.specs.declared.family.Operand.TheVariants.{Single}
 use Rattle.vx_operands.specs.Forms.{reading}
-use Rattle.vx_operands.specs.Lanes.{AreLanes, AreSources, answer, numbers_of, packing_of}
+use Rattle.vx_operands.specs.Lanes.{AreLanes, answer, numbers_of, packing_of}
 use Rattle.vx_vstate.specs.Registers.{place_of, words_of_all, element, element_word}
 use Rattle.vx_vector.specs.Laws.{IsPlaced, per_word}
-use Rattle.vx_vector.specs.Reading.{Reading, sew_of, destination_width}
+use Rattle.vx_vector.specs.Reading.{sew_of, destination_width}
 use Rattle.vx_operands.specs.Forms.{second_operand}
 use Rattle.vx_operands.proofs.Places.{word_small, registers_small, per_word-le}
 use Rattle.vx_operands.proofs.Even.{destination_place, vs1_is, masked, mask_are}

@@ -1,7 +1,6 @@
 -- All operands have as many elements a word.
-use Rattle.std.proofs.Common.{◌≡◌, ℕ, ◌*◌, ◌/◌, ◌<◌, ◌≤◌, ◌∙◌, sym, ap, IsTrue, subst, false, not, arith}
+use Rattle.std.proofs.Common.{◌*◌, ◌/◌, ◌<◌, ◌≤◌, ◌∙◌, sym, ap, IsTrue, subst, not, arith}
 use Rattle.vx_bits.specs.Width.{is_width}
-use Rattle.vx_packed.specs.declared.elements.Made.{Made}
 use Rattle.vx_packed.specs.declared.elements.Sources.{Sources}
 use Rattle.vx_rows.specs.Families.{operands_of}
 use Rattle.vx_rows.specs.declared.family.Operand.{Operand}
@@ -9,8 +8,6 @@ use Rattle.vx_operands.specs.Forms.{reading}
 use Rattle.vx_operands.specs.Lanes.{AreSources, answer, numbers_of}
 use Rattle.vx_packed.specs.Made.{even_packing, made}
 use Rattle.vx_vector.specs.Laws.{IsPlaced, is_absent, per_word}
-use Rattle.vx_vector.specs.Reading.{Reading, sew_of}
-use Rattle.vx_vstate.specs.declared.setting.Setting.{Setting}
 use Rattle.vx_operands.proofs.Places.{word_small, registers_small, per_word-le}
 use Rattle.vx_operands.proofs.Merging.{made_are}
 use Rattle.vx_operands.proofs.Even.{even_of, destination_even, count_even, placed_word, destination_place, vs1_is, masked, mask_are, sources_are}

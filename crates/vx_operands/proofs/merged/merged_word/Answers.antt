@@ -1,12 +1,10 @@
 -- The lanes are those of the active elements, and those are new.
-use Rattle.std.proofs.Common.{◌≡◌, ℕ, ◌*◌, ◌/◌, ◌∙◌, ap, IsTrue, List, subst, false}
+use Rattle.std.proofs.Common.{◌/◌, ◌∙◌, ap, IsTrue, subst}
 use Rattle.vx_bits.specs.Width.{is_width}
 use Rattle.vx_operands.specs.Forms.{reading}
-use Rattle.vx_operands.specs.Lanes.{AreMaskBits}
-use Rattle.vx_vector.specs.Reading.{destination_width, count_of}
-use Rattle.vx_operands.specs.Forms.{is_unmasked}
+use Rattle.vx_vector.specs.Reading.{destination_width}
 use Rattle.vx_operands.proofs.Places.{per_word-le}
-use Rattle.vx_operands.proofs.Merging.{AreActive, active_are, merged_value, merged_sat}
+use Rattle.vx_operands.proofs.Merging.{active_are, merged_value, merged_sat}
 use Rattle.vx_operands.proofs.merged.merged_word.Goals as goal
 
 pub returns-clause-value : goal.returns-clause-value

@@ -1,7 +1,7 @@
 -- The bits of the elements begin at the first one's, and lie in one word.
-use Rattle.std.proofs.Common.{◌≡◌, ℕ, ◌+◌, ◌*◌, ◌/◌, ◌%◌, ◌^◌, ◌<◌, ◌≤◌, Fits, w32, sym, ap, ◌∙◌, arith}
+use Rattle.std.proofs.Common.{ℕ, ◌+◌, ◌*◌, ◌/◌, ◌%◌, sym, ap, ◌∙◌, arith}
 use Rattle.vx_base.specs.Numbers.{field}
-use Rattle.vx_vstate.specs.Registers.{word_at, element_word, element_bit}
+use Rattle.vx_vstate.specs.Registers.{word_at, element_bit}
 use Rattle.vx_operands.proofs.Places.{part_element, part_small, registers_small, lane_shifted}
 use Rattle.vx_operands.proofs.sources.part.Goals as goal
 
