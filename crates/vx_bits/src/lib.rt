@@ -15,6 +15,7 @@ mod shifts;
 pub use arithmetic::{
     add_at, div_at, divu_at, mul_at, mulh_at, mulhsu_at, mulhu_at, rem_at, remu_at, sub_at,
 };
+pub use reading::{low, reduce, signed_reading};
 pub use rounding::round;
 pub use saturation::{Sat, fit_at, sadd_at, saddu_at, ssub_at, ssubu_at};
 pub use shifts::{sll_at, sra_at, srl_at};
