@@ -6,7 +6,7 @@ use Rattle.std.proofs.lemmas.Nat.{le-div}
 use Rattle.vx_bits.specs.Width.{is_width}
 use Rattle.vx_packed.specs.Joined.{lane}
 use Rattle.vx_packed.specs.declared.elements.Sources.{Sources}
-use Rattle.vx_legal.specs.Groups.{width_of}
+use Rattle.vx_decode.specs.Groups.{width_of}
 use Rattle.vx_rows.specs.Families.{operands_of}
 use Rattle.vx_rows.specs.declared.family.Operand.{Operand}
 use Rattle.vx_rows.specs.declared.family.Operand.TheVariants.{Single, Double, Half, Quarter, Eighth, Whole1, Whole2, Whole4, Whole8}

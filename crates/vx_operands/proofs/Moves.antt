@@ -1,6 +1,6 @@
 -- vmv.v.
 use Rattle.std.proofs.Common.{◌≡◌, ℕ, ◌+◌, ◌*◌, ◌/◌, true, not, IsTrue, nat_eq, if◌then◌else◌, ap, subst}
-use Rattle.vx_legal.specs.Groups.{width_of}
+use Rattle.vx_decode.specs.Groups.{width_of}
 use Rattle.vx_rows.specs.Families.{operands_of}
 use Rattle.vx_rows.specs.declared.family.Family.{Family}
 use Rattle.vx_rows.specs.declared.family.Family.TheVariants.{VmvV}

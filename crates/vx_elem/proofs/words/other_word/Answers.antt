@@ -1,6 +1,6 @@
 -- Each family on its own.
 use Rattle.std.proofs.Common.{◌/◌, sym, ap, ◌∙◌}
-use Rattle.vx_legal.specs.Groups.{width_of}
+use Rattle.vx_decode.specs.Groups.{width_of}
 use Rattle.vx_rows.specs.Families.{operands_of}
 use Rattle.vx_rows.specs.declared.family.Family.{Family}
 use Rattle.vx_operands.specs.Forms.{reading}
