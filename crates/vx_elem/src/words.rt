@@ -1,3 +1,4 @@
+ghost use Rattle.vx_vstate.specs.Views.{view_of};
 ghost use Rattle.std.specs.Prelude.{IsTrue, ◌≡◌, ℕ, ◌*◌, ◌/◌, ◌<◌, ◌≤◌, length, if◌then◌else◌};
 ghost use Rattle.vx_bits.specs.Width.{is_width};
 ghost use Rattle.vx_elem.specs.Kinds.{is_elem, is_elem_form, is_other};
@@ -67,18 +68,18 @@ fn extended_word<S: WordFile>(
     w: u32,
 ) -> Word
     requires same { S.vlen file.now ≡ at.now.vlen }
-    requires sound { IsSound (reading form at.now regs.now (S.words file.now)) }
+    requires sound { IsSound (reading form (view_of at.now) regs.now (S.words file.now)) }
     requires each { IsTrue (is_each (rule_of form.family)) }
     requires groups { IsTrue (are_groups form.first (operands_of form.family)) }
-    requires sew { sew ≡ sew_of (reading form at.now regs.now (S.words file.now)) }
+    requires sew { sew ≡ sew_of (reading form (view_of at.now) regs.now (S.words file.now)) }
     requires is_width { IsTrue (is_width sew) }
-    requires width { sew ≡ destination_width (reading form at.now regs.now (S.words file.now)) }
-    requires narrow { narrow ≡ vs2_width (reading form at.now regs.now (S.words file.now)) }
+    requires width { sew ≡ destination_width (reading form (view_of at.now) regs.now (S.words file.now)) }
+    requires narrow { narrow ≡ vs2_width (reading form (view_of at.now) regs.now (S.words file.now)) }
     requires less { narrow ≤ sew }
     requires extends { (mode : ℕ) (l : Lane) → answer form.family (numbers_of sew mode l) ≡ plain (if is_signed then extended_at narrow sew l.a else l.a) }
-    requires within { w < length (destination_words (reading form at.now regs.now (S.words file.now))) }
-    ensures value { result.value ≡ made_word (reading form at.now regs.now (S.words file.now)) w }
-    ensures sat { result.sat ≡ word_saturates (reading form at.now regs.now (S.words file.now)) w }
+    requires within { w < length (destination_words (reading form (view_of at.now) regs.now (S.words file.now))) }
+    ensures value { result.value ≡ made_word (reading form (view_of at.now) regs.now (S.words file.now)) w }
+    ensures sat { result.sat ≡ word_saturates (reading form (view_of at.now) regs.now (S.words file.now)) w }
 {
     let widths = Packing {
         count: 64 / sew,
@@ -108,13 +109,13 @@ fn other_word<S: WordFile>(
     w: u32,
 ) -> Word
     requires same { S.vlen file.now ≡ at.now.vlen }
-    requires sound { IsSound (reading form at.now regs.now (S.words file.now)) }
+    requires sound { IsSound (reading form (view_of at.now) regs.now (S.words file.now)) }
     requires kind { IsTrue (is_other form.family form.first form.vm) }
-    requires sew { sew ≡ sew_of (reading form at.now regs.now (S.words file.now)) }
+    requires sew { sew ≡ sew_of (reading form (view_of at.now) regs.now (S.words file.now)) }
     requires is_width { IsTrue (is_width sew) }
-    requires within { w < length (destination_words (reading form at.now regs.now (S.words file.now))) }
-    ensures value { result.value ≡ made_word (reading form at.now regs.now (S.words file.now)) w }
-    ensures sat { result.sat ≡ word_saturates (reading form at.now regs.now (S.words file.now)) w }
+    requires within { w < length (destination_words (reading form (view_of at.now) regs.now (S.words file.now))) }
+    ensures value { result.value ≡ made_word (reading form (view_of at.now) regs.now (S.words file.now)) w }
+    ensures sat { result.sat ≡ word_saturates (reading form (view_of at.now) regs.now (S.words file.now)) w }
 {
     match form.family {
         Family::VmvV => moved_word(form, file, at, regs, sew, w),
@@ -136,11 +137,11 @@ fn other_word<S: WordFile>(
 #[inline(always)]
 fn word_of_form<S: WordFile>(form: Form, file: &S, at: &Setting, regs: &Places, w: u32) -> Word
     requires same { S.vlen file.now ≡ at.now.vlen }
-    requires sound { IsSound (reading form at.now regs.now (S.words file.now)) }
+    requires sound { IsSound (reading form (view_of at.now) regs.now (S.words file.now)) }
     requires kind { IsTrue (is_elem_form form) }
-    requires within { w < length (destination_words (reading form at.now regs.now (S.words file.now))) }
-    ensures value { result.value ≡ made_word (reading form at.now regs.now (S.words file.now)) w }
-    ensures sat { result.sat ≡ word_saturates (reading form at.now regs.now (S.words file.now)) w }
+    requires within { w < length (destination_words (reading form (view_of at.now) regs.now (S.words file.now))) }
+    ensures value { result.value ≡ made_word (reading form (view_of at.now) regs.now (S.words file.now)) w }
+    ensures sat { result.sat ≡ word_saturates (reading form (view_of at.now) regs.now (S.words file.now)) w }
 {
     let sew = at.sew();
     if is_plain(form.family) {
@@ -164,10 +165,10 @@ fn word_of_form<S: WordFile>(form: Form, file: &S, at: &Setting, regs: &Places, 
 pub fn word<S: WordFile>(op: Op, at: &Setting, file: &S, regs: &Places, w: u32) -> Word
     requires row { IsTrue (is_elem op) }
     requires same { S.vlen file.now ≡ at.now.vlen }
-    requires sound { IsSound (reading (form_of op) at.now regs.now (S.words file.now)) }
-    requires within { w < length (destination_words (reading (form_of op) at.now regs.now (S.words file.now))) }
-    ensures value { result.value ≡ word_at at.now.vlen (words_after (reading (form_of op) at.now regs.now (S.words file.now))) regs.now.vd w }
-    ensures sat { result.sat ≡ word_saturates (reading (form_of op) at.now regs.now (S.words file.now)) w }
+    requires sound { IsSound (reading (form_of op) (view_of at.now) regs.now (S.words file.now)) }
+    requires within { w < length (destination_words (reading (form_of op) (view_of at.now) regs.now (S.words file.now))) }
+    ensures value { result.value ≡ word_at at.now.vlen (words_after (reading (form_of op) (view_of at.now) regs.now (S.words file.now))) regs.now.vd w }
+    ensures sat { result.sat ≡ word_saturates (reading (form_of op) (view_of at.now) regs.now (S.words file.now)) w }
 {
     words_are_made();
     match op {

@@ -17,7 +17,7 @@ use Rattle.vx_rows.specs.declared.row.Vm.{Vm}
 use Rattle.vx_rows.specs.declared.row.Vm.TheVariants.{Any, Zero, One}
 use Rattle.vx_vstate.specs.Registers.{word_at, place_of, words_of_register, words_of_all, element}
 use Rattle.vx_vstate.specs.Vtype.{vill, vlmax}
-use Rattle.vx_vstate.specs.declared.setting.Setting.{Setting}
+use Rattle.vx_vstate.specs.State.{SettingView, IsSetting}
 use Rattle.vx_vector.specs.Laws.{IsPlaced, is_absent, per_word}
 use Rattle.vx_vector.specs.Reading.{Reading, is_unmasked_by, sew_of, destination_width, vs2_width, vs1_width, count_in, count_of, whole_registers, mask_bit, numbers_at}
 use Rattle.vx_operands.specs.Forms.{is_unmasked, second_operand}
@@ -56,18 +56,18 @@ module _ (r : Reading) (h : IsEvenOf r.first (operands_of r.family)) where
   pub vs1_even : r.first ≡ Vector → vs1_width r ≡ sew_of r
   vs1_even e = ap (λ o. width_of o (sew_of r)) (h.vs1 e)
 
-pub vl-le : (at : Setting) → at.vl ≤ vlmax at.vlen at.vtype
-vl-le at =
+pub vl-le : (at : SettingView) → IsSetting at → at.vl ≤ vlmax at.vlen at.vtype
+vl-le at k =
     ⊎_elim
-    (λ t. let e = ap (λ (b : Bool). if b then 0 else vlmax at.vlen at.vtype) t in let most = at.vl_in_range in omega arith)
-    (λ f. let e = ap (λ (b : Bool). if b then 0 else vlmax at.vlen at.vtype) f in let most = at.vl_in_range in omega arith)
+    (λ t. let e = ap (λ (b : Bool). if b then 0 else vlmax at.vlen at.vtype) t in let most = k.vl_in_range in omega arith)
+    (λ f. let e = ap (λ (b : Bool). if b then 0 else vlmax at.vlen at.vtype) f in let most = k.vl_in_range in omega arith)
     (cases_Bool (nat_eq at.vtype vill))
 
 -- a word of an operand that holds an element below vl is there
-pub placed_word : (r : Reading) (o : Operand) (register w : ℕ) → o ≡ Single → IsPlaced r o register → IsTrue (is_width (sew_of r)) → w * (64 / sew_of r) < r.at.vl → place_of r.at.vlen register w < words_of_all r.at.vlen
-placed_word r o register w e placed width l =
+pub placed_word : (r : Reading) → IsSetting r.at → (o : Operand) (register w : ℕ) → o ≡ Single → IsPlaced r o register → IsTrue (is_width (sew_of r)) → w * (64 / sew_of r) < r.at.vl → place_of r.at.vlen register w < words_of_all r.at.vlen
+placed_word r k o register w e placed width l =
     let p = subst (λ (o : Operand). IsPlaced r o register) e placed in
-    let most = vl-le r.at in
+    let most = vl-le r.at k in
     let below : w * (64 / sew_of r) < vlmax r.at.vlen r.at.vtype = omega arith in
     let at = first_word (sew_of r) w width in
     let within = p.within (w * (64 / sew_of r)) below in

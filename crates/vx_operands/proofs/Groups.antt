@@ -1,4 +1,5 @@
 -- Rows whose operands are groups of elements of several widths, and whole registers.
+use Rattle.vx_vstate.specs.State.{IsSetting}
 use Rattle.std.proofs.Common.{◌≡◌, ℕ, suc, ◌+◌, ◌*◌, ◌/◌, ◌<◌, ◌≤◌, Bool, true, false, not, ◌&&◌, IsTrue, nat_eq, if◌then◌else◌, refl, sym, ap, ◌∙◌, ⊎_elim, arith, mul-le-mul_right}
 use Rattle.std.proofs.lemmas.Bool.{false≢true, and_parts, eqb-true, cases_Bool}
 use Rattle.std.proofs.Math.Nat.{mul-le-mul_left}
@@ -58,9 +59,9 @@ pub count_of_group : (r : Reading) → IsGroup r (operands_of r.family).destinat
 count_of_group r g = ap (λ n. if nat_eq n 0 then r.at.vl else count_in r (operands_of r.family).destination) g.whole
 
 -- the word in which an element below vl begins is there
-pub placed_part : (r : Reading) (o : Operand) (register i : ℕ) → IsGroup r o → IsPlaced r o register → i < r.at.vl → place_of r.at.vlen register (element_word (width_of o (sew_of r)) i) < words_of_all r.at.vlen
-placed_part r o register i g placed l =
-    let most = vl-le r.at in
+pub placed_part : (r : Reading) → IsSetting r.at → (o : Operand) (register i : ℕ) → IsGroup r o → IsPlaced r o register → i < r.at.vl → place_of r.at.vlen register (element_word (width_of o (sew_of r)) i) < words_of_all r.at.vlen
+placed_part r k o register i g placed l =
+    let most = vl-le r.at k in
     let below : i < count_in r o = omega (arith, g.elements) in
     in_place register (registers_of_operand r o) (element_word (width_of o (sew_of r)) i) (r.at.vlen / 64) placed.room (placed.within i below)
 

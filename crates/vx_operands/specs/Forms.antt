@@ -12,7 +12,7 @@ use Rattle.vx_rows.specs.declared.row.Shape.{Shape}
 use Rattle.vx_rows.specs.declared.row.Shape.TheVariants.{Vector}
 use Rattle.vx_rows.specs.declared.row.Vm.{Vm}
 use Rattle.vx_rows.specs.declared.row.Vm.TheVariants as vm
-use Rattle.vx_vstate.specs.declared.setting.Setting.{Setting}
+use Rattle.vx_vstate.specs.State.{SettingView}
 use Rattle.vx_vector.specs.Reading.{Reading, is_unmasked_by, second_by}
 use Rattle.vx_vector.specs.declared.places.Places.{Places}
 use Rattle.vx_operands.specs.declared.form.Form.{Form}
@@ -35,7 +35,7 @@ abbrev pub form_of : Op → Form
 form_of op = record { family = family_in (class_of op); first = first_in (shape_of op); vm = vm_in (shape_of op) }
 
 -- an instruction of a form reads this
-abbrev pub reading : Form → Setting → Places → (words : List ℕ) → Reading
+abbrev pub reading : Form → SettingView → Places → (words : List ℕ) → Reading
 reading form at places words = record { family = form.family; first = form.first; vm = form.vm; at = at; places = places; words = words }
 
 -- the instruction's elements aren't masked, and operand b of element i

@@ -3,7 +3,7 @@ ghost use Rattle.vx_bits.specs.Width.{is_width};
 ghost use Rattle.vx_operands.specs.Forms.{reading};
 ghost use Rattle.vx_vector.specs.Numbers.{is_less_at, plain};
 ghost use Rattle.vx_operands.specs.Forms.{is_unmasked};
-ghost use Rattle.vx_vstate.specs.declared.setting.Setting.{Setting};
+ghost use Rattle.vx_vstate.specs.State.{SettingView};
 
 use vx_bits::{Sat, signed_reading};
 use vx_rows::{Family, First, Vm};
@@ -21,7 +21,7 @@ pub struct Form {
 /// Whether all elements take part, whatever the mask in `v0` is.
 #[inline(always)]
 pub fn is_unmasked(form: Form, regs: &Places) -> bool
-    ensures { (at : Setting) (words : List ℕ) → result ≡ is_unmasked (reading form at regs.now words) }
+    ensures { (at : SettingView) (words : List ℕ) → result ≡ is_unmasked (reading form at regs.now words) }
 {
     match form.vm {
         Vm::Any => regs.vm,

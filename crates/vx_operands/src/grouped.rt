@@ -1,3 +1,4 @@
+ghost use Rattle.vx_vstate.specs.Views.{view_of};
 ghost use Rattle.std.specs.Prelude.{IsTrue, true, false, ◌≡◌, ℕ, ◌+◌, ◌-◌, ◌*◌, ◌/◌, ◌^◌, ◌<◌, ◌≤◌, List, length};
 ghost use Rattle.vx_bits.specs.Width.{is_width};
 ghost use Rattle.vx_operands.specs.Forms.{reading};
@@ -32,13 +33,13 @@ pub fn moved_word<S: WordFile>(
     w: u32,
 ) -> Word
     requires same { S.vlen file.now ≡ at.now.vlen }
-    requires sound { IsSound (reading form at.now regs.now (S.words file.now)) }
+    requires sound { IsSound (reading form (view_of at.now) regs.now (S.words file.now)) }
     requires moves { form.family ≡ VmvV }
-    requires sew { sew ≡ sew_of (reading form at.now regs.now (S.words file.now)) }
+    requires sew { sew ≡ sew_of (reading form (view_of at.now) regs.now (S.words file.now)) }
     requires width { IsTrue (is_width sew) }
-    requires within { w < length (destination_words (reading form at.now regs.now (S.words file.now))) }
-    ensures value { result.value ≡ made_word (reading form at.now regs.now (S.words file.now)) w }
-    ensures sat { result.sat ≡ word_saturates (reading form at.now regs.now (S.words file.now)) w }
+    requires within { w < length (destination_words (reading form (view_of at.now) regs.now (S.words file.now))) }
+    ensures value { result.value ≡ made_word (reading form (view_of at.now) regs.now (S.words file.now)) w }
+    ensures sat { result.sat ≡ word_saturates (reading form (view_of at.now) regs.now (S.words file.now)) w }
 {
     elements_lie_in_their_group();
     let per_word = 64 / sew;
@@ -66,17 +67,17 @@ pub fn whole_word<S: WordFile>(
     w: u32,
 ) -> Word
     requires same { S.vlen file.now ≡ at.now.vlen }
-    requires sound { IsSound (reading form at.now regs.now (S.words file.now)) }
+    requires sound { IsSound (reading form (view_of at.now) regs.now (S.words file.now)) }
     requires each { IsTrue (is_each (rule_of form.family)) }
     requires whole { IsTrue (is_whole (operands_of form.family) form.vm) }
     requires copies { (n : Numbers) → answer form.family n ≡ plain n.a }
     requires registers { registers ≡ whole_registers (operands_of form.family).destination }
     requires few { registers ≤ 8 }
-    requires sew { sew ≡ sew_of (reading form at.now regs.now (S.words file.now)) }
+    requires sew { sew ≡ sew_of (reading form (view_of at.now) regs.now (S.words file.now)) }
     requires width { IsTrue (is_width sew) }
-    requires within { w < length (destination_words (reading form at.now regs.now (S.words file.now))) }
-    ensures value { result.value ≡ made_word (reading form at.now regs.now (S.words file.now)) w }
-    ensures sat { result.sat ≡ word_saturates (reading form at.now regs.now (S.words file.now)) w }
+    requires within { w < length (destination_words (reading form (view_of at.now) regs.now (S.words file.now))) }
+    ensures value { result.value ≡ made_word (reading form (view_of at.now) regs.now (S.words file.now)) w }
+    ensures sat { result.sat ≡ word_saturates (reading form (view_of at.now) regs.now (S.words file.now)) w }
 {
     let old = group_word(file, at, regs.vd, w);
     let made = Made {
@@ -100,10 +101,10 @@ pub fn wide_word<S: WordFile, F: FnOnce(Sources) -> Made>(
     f: F,
 ) -> Word
     requires same { S.vlen file.now ≡ at.now.vlen }
-    requires sound { IsSound (reading form at.now regs.now (S.words file.now)) }
+    requires sound { IsSound (reading form (view_of at.now) regs.now (S.words file.now)) }
     requires each { IsTrue (is_each (rule_of form.family)) }
     requires groups { IsTrue (are_groups form.first (operands_of form.family)) }
-    requires widths { widths ≡ packing_of (reading form at.now regs.now (S.words file.now)) }
+    requires widths { widths ≡ packing_of (reading form (view_of at.now) regs.now (S.words file.now)) }
     requires width { IsTrue (is_width widths.width) }
     requires b_width { IsTrue (is_width widths.b) }
     requires some_a { 0 < widths.a * widths.count }
@@ -111,11 +112,11 @@ pub fn wide_word<S: WordFile, F: FnOnce(Sources) -> Made>(
     requires a_part { FillsPart widths.a widths.count }
     requires b_part { FillsPart widths.b widths.count }
     requires few { widths.count ≤ 64 / widths.b }
-    requires within { w < length (destination_words (reading form at.now regs.now (S.words file.now))) }
+    requires within { w < length (destination_words (reading form (view_of at.now) regs.now (S.words file.now))) }
     requires callable { (from : Sources) → F.pre f from }
     requires makes { (from : Sources) (new : Made) → F.post f from new → new ≡ made widths from (λ l. answer form.family (numbers_of widths.b at.now.vxrm l)) }
-    ensures value { result.value ≡ made_word (reading form at.now regs.now (S.words file.now)) w }
-    ensures sat { result.sat ≡ word_saturates (reading form at.now regs.now (S.words file.now)) w }
+    ensures value { result.value ≡ made_word (reading form (view_of at.now) regs.now (S.words file.now)) w }
+    ensures sat { result.sat ≡ word_saturates (reading form (view_of at.now) regs.now (S.words file.now)) w }
 {
     elements_lie_in_their_group();
     joined_by_elements();

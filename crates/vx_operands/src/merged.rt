@@ -1,3 +1,4 @@
+ghost use Rattle.vx_vstate.specs.Views.{view_of};
 ghost use Rattle.std.specs.Prelude.{IsTrue, true, false, ◌≡◌, ℕ, ◌+◌, ◌-◌, ◌*◌, ◌/◌, ◌^◌, ◌<◌, ◌≤◌, List, length};
 ghost use Rattle.vx_bits.specs.Width.{is_width};
 ghost use Rattle.vx_operands.specs.Forms.{reading};
@@ -12,7 +13,7 @@ ghost use Rattle.vx_operands.specs.Forms.{is_unmasked};
 ghost use Rattle.vx_vector.specs.Rules.{rule_of};
 ghost use Rattle.vx_vector.specs.Words.{destination_words};
 ghost use Rattle.vx_vstate.specs.Registers.{word_at};
-ghost use Rattle.vx_vstate.specs.declared.setting.Setting.{Setting};
+ghost use Rattle.vx_vstate.specs.State.{SettingView};
 
 use crate::form::{Form, is_unmasked};
 use crate::sources::{group_word, mask_word, second_word};
@@ -36,8 +37,8 @@ pub fn kept(old: u64) -> Word
 /// A bit for each element, whether the mask lets it take part.
 #[inline(always)]
 fn let_in(form: Form, regs: &Places, mask: u64) -> u64
-    ensures all { (at : Setting) (words : List ℕ) → is_unmasked (reading form at regs.now words) ≡ true → result ≡ 2 ^ 64 - 1 }
-    ensures some { (at : Setting) (words : List ℕ) → is_unmasked (reading form at regs.now words) ≡ false → result ≡ mask }
+    ensures all { (at : SettingView) (words : List ℕ) → is_unmasked (reading form at regs.now words) ≡ true → result ≡ 2 ^ 64 - 1 }
+    ensures some { (at : SettingView) (words : List ℕ) → is_unmasked (reading form at regs.now words) ≡ false → result ≡ mask }
 {
     if is_unmasked(form, regs) {
         u64::MAX
@@ -61,8 +62,8 @@ pub fn merged_word(
 ) -> Word
     requires width { IsTrue (is_width width) }
     requires begins { w * (64 / width) < count }
-    ensures value { (words : List ℕ) → IsTrue (is_each (rule_of form.family)) → width ≡ destination_width (reading form at.now regs.now words) → count ≡ count_of (reading form at.now regs.now words) → (is_unmasked (reading form at.now regs.now words) ≡ false → AreMaskBits (reading form at.now regs.now words) w mask) → old ≡ word_at at.now.vlen words regs.now.vd w → AreMade (reading form at.now regs.now words) w made → result.value ≡ made_word (reading form at.now regs.now words) w }
-    ensures sat { (words : List ℕ) → IsTrue (is_each (rule_of form.family)) → width ≡ destination_width (reading form at.now regs.now words) → count ≡ count_of (reading form at.now regs.now words) → (is_unmasked (reading form at.now regs.now words) ≡ false → AreMaskBits (reading form at.now regs.now words) w mask) → AreMade (reading form at.now regs.now words) w made → result.sat ≡ word_saturates (reading form at.now regs.now words) w }
+    ensures value { (words : List ℕ) → IsTrue (is_each (rule_of form.family)) → width ≡ destination_width (reading form (view_of at.now) regs.now words) → count ≡ count_of (reading form (view_of at.now) regs.now words) → (is_unmasked (reading form (view_of at.now) regs.now words) ≡ false → AreMaskBits (reading form (view_of at.now) regs.now words) w mask) → old ≡ word_at at.now.vlen words regs.now.vd w → AreMade (reading form (view_of at.now) regs.now words) w made → result.value ≡ made_word (reading form (view_of at.now) regs.now words) w }
+    ensures sat { (words : List ℕ) → IsTrue (is_each (rule_of form.family)) → width ≡ destination_width (reading form (view_of at.now) regs.now words) → count ≡ count_of (reading form (view_of at.now) regs.now words) → (is_unmasked (reading form (view_of at.now) regs.now words) ≡ false → AreMaskBits (reading form (view_of at.now) regs.now words) w mask) → AreMade (reading form (view_of at.now) regs.now words) w made → result.sat ≡ word_saturates (reading form (view_of at.now) regs.now words) w }
 {
     joined_by_elements();
     let per_word = 64 / width;
@@ -92,16 +93,16 @@ pub fn even_word<S: WordFile, F: FnOnce(Sources) -> Made>(
     f: F,
 ) -> Word
     requires same { S.vlen file.now ≡ at.now.vlen }
-    requires sound { IsSound (reading form at.now regs.now (S.words file.now)) }
+    requires sound { IsSound (reading form (view_of at.now) regs.now (S.words file.now)) }
     requires each { IsTrue (is_each (rule_of form.family)) }
     requires even { IsTrue (is_even form.first (operands_of form.family)) }
-    requires sew { sew ≡ sew_of (reading form at.now regs.now (S.words file.now)) }
+    requires sew { sew ≡ sew_of (reading form (view_of at.now) regs.now (S.words file.now)) }
     requires width { IsTrue (is_width sew) }
-    requires within { w < length (destination_words (reading form at.now regs.now (S.words file.now))) }
+    requires within { w < length (destination_words (reading form (view_of at.now) regs.now (S.words file.now))) }
     requires callable { (from : Sources) → F.pre f from }
     requires makes { (from : Sources) (new : Made) → F.post f from new → new ≡ made (even_packing sew) from (λ l. answer form.family (numbers_of sew at.now.vxrm l)) }
-    ensures value { result.value ≡ made_word (reading form at.now regs.now (S.words file.now)) w }
-    ensures sat { result.sat ≡ word_saturates (reading form at.now regs.now (S.words file.now)) w }
+    ensures value { result.value ≡ made_word (reading form (view_of at.now) regs.now (S.words file.now)) w }
+    ensures sat { result.sat ≡ word_saturates (reading form (view_of at.now) regs.now (S.words file.now)) w }
 {
     elements_lie_in_their_group();
     joined_by_elements();

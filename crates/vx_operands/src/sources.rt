@@ -1,3 +1,4 @@
+ghost use Rattle.vx_vstate.specs.Views.{view_of};
 ghost use Rattle.std.specs.Prelude.{IsTrue, true, false, ◌≡◌, ℕ, ◌+◌, ◌*◌, ◌/◌, ◌<◌, ◌≤◌, ◌==◌};
 ghost use Rattle.vx_base.specs.Numbers.{reduced};
 ghost use Rattle.vx_bits.specs.Width.{is_width};
@@ -66,11 +67,11 @@ pub fn second_word<S: WordFile>(
     w: u32,
 ) -> u64
     requires same { S.vlen file.now ≡ at.now.vlen }
-    requires sew { sew ≡ sew_of (reading form at.now regs.now (S.words file.now)) }
+    requires sew { sew ≡ sew_of (reading form (view_of at.now) regs.now (S.words file.now)) }
     requires width { IsTrue (is_width sew) }
-    requires equal { form.first ≡ Vector → vs1_width (reading form at.now regs.now (S.words file.now)) ≡ sew }
+    requires equal { form.first ≡ Vector → vs1_width (reading form (view_of at.now) regs.now (S.words file.now)) ≡ sew }
     requires within { form.first ≡ Vector → place_of at.now.vlen regs.now.vs1 w < words_of_all at.now.vlen }
-    ensures { AreLanes sew result (64 / sew) (λ k. second_operand (reading form at.now regs.now (S.words file.now)) (w * (64 / sew) + k)) }
+    ensures { AreLanes sew result (64 / sew) (λ k. second_operand (reading form (view_of at.now) regs.now (S.words file.now)) (w * (64 / sew) + k)) }
 {
     joined_by_elements();
     match form.first {
@@ -112,14 +113,14 @@ pub fn second_part<S: WordFile>(
     w: u32,
 ) -> u64
     requires same { S.vlen file.now ≡ at.now.vlen }
-    requires sew { sew ≡ sew_of (reading form at.now regs.now (S.words file.now)) }
+    requires sew { sew ≡ sew_of (reading form (view_of at.now) regs.now (S.words file.now)) }
     requires width { IsTrue (is_width sew) }
     requires some { 0 < sew * count }
     requires divides { FillsPart sew count }
     requires few { count ≤ 64 / sew }
-    requires equal { form.first ≡ Vector → vs1_width (reading form at.now regs.now (S.words file.now)) ≡ sew }
+    requires equal { form.first ≡ Vector → vs1_width (reading form (view_of at.now) regs.now (S.words file.now)) ≡ sew }
     requires within { form.first ≡ Vector → place_of at.now.vlen regs.now.vs1 (element_word sew (w * count)) < words_of_all at.now.vlen }
-    ensures { AreLanes sew result count (λ k. second_operand (reading form at.now regs.now (S.words file.now)) (w * count + k)) }
+    ensures { AreLanes sew result count (λ k. second_operand (reading form (view_of at.now) regs.now (S.words file.now)) (w * count + k)) }
 {
     joined_by_elements();
     match form.first {

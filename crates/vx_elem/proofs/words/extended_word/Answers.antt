@@ -1,4 +1,5 @@
 -- The widths fit, and each lane is extended.
+use Rattle.vx_vstate.specs.Views.{view_of}
 use Rattle.std.proofs.Common.{◌≡◌, ◌/◌, IsTrue, sym, ◌∙◌, subst, rules, if◌then◌else◌}
 use Rattle.vx_vector.specs.Numbers.{extended_at, plain}
 use Rattle.vx_packed.specs.Made.{made}
@@ -16,7 +17,7 @@ wide_word-requires-clause-widths g c =
 
 pub wide_word-requires-clause-some_a : goal.wide_word-requires-clause-some_a
 wide_word-requires-clause-some_a g c =
-    let r = reading c.args.form c.args.at.now c.args.regs.now (g.S.WordFile.words c.args.file.now) in
+    let r = reading c.args.form (view_of c.args.at.now) c.args.regs.now (g.S.WordFile.words c.args.file.now) in
     let fit = fits c.args.narrow c.args.sew (subst (λ n. IsTrue (is_element_width n)) (sym c.requires.narrow) (group_width (operands_of c.args.form.family).vs2 (vs2_width r) (vs2_group c.args.form.first (operands_of c.args.form.family) c.requires.groups) c.requires.sound.vs2.width)) c.requires.is_width c.requires.less in
     fit.product
 
@@ -27,7 +28,7 @@ wide_word-requires-clause-some_b g c =
 
 pub wide_word-requires-clause-a_part : goal.wide_word-requires-clause-a_part
 wide_word-requires-clause-a_part g c =
-    let r = reading c.args.form c.args.at.now c.args.regs.now (g.S.WordFile.words c.args.file.now) in
+    let r = reading c.args.form (view_of c.args.at.now) c.args.regs.now (g.S.WordFile.words c.args.file.now) in
     let fit = fits c.args.narrow c.args.sew (subst (λ n. IsTrue (is_element_width n)) (sym c.requires.narrow) (group_width (operands_of c.args.form.family).vs2 (vs2_width r) (vs2_group c.args.form.first (operands_of c.args.form.family) c.requires.groups) c.requires.sound.vs2.width)) c.requires.is_width c.requires.less in
     fit.part
 

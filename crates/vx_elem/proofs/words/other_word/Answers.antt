@@ -1,4 +1,5 @@
 -- Each family on its own.
+use Rattle.vx_vstate.specs.Views.{view_of}
 use Rattle.std.proofs.Common.{◌/◌, sym, ap, ◌∙◌}
 use Rattle.vx_decode.specs.Groups.{width_of}
 use Rattle.vx_rows.specs.Families.{operands_of}
@@ -66,10 +67,10 @@ pub extended_word-requires-clause-groups : goal.extended_word-requires-clause-gr
 extended_word-requires-clause-groups g c = extension_groups c.args.form.family c.args.form.first c.args.form.vm c.requires.kind (ap is_extension c.in-VzextVf8.is)
 
 pub extended_word-requires-clause-width : goal.extended_word-requires-clause-width
-extended_word-requires-clause-width g c = c.requires.sew ∙ sym (ap (λ (f : Family). width_of (operands_of f).destination (sew_of (reading c.args.form c.args.at.now c.args.regs.now (g.S.WordFile.words c.args.file.now)))) c.in-VzextVf8.is)
+extended_word-requires-clause-width g c = c.requires.sew ∙ sym (ap (λ (f : Family). width_of (operands_of f).destination (sew_of (reading c.args.form (view_of c.args.at.now) c.args.regs.now (g.S.WordFile.words c.args.file.now)))) c.in-VzextVf8.is)
 
 pub extended_word-requires-clause-narrow : goal.extended_word-requires-clause-narrow
-extended_word-requires-clause-narrow g c = ap (λ s. s / 8) c.requires.sew ∙ sym (ap (λ (f : Family). width_of (operands_of f).vs2 (sew_of (reading c.args.form c.args.at.now c.args.regs.now (g.S.WordFile.words c.args.file.now)))) c.in-VzextVf8.is)
+extended_word-requires-clause-narrow g c = ap (λ s. s / 8) c.requires.sew ∙ sym (ap (λ (f : Family). width_of (operands_of f).vs2 (sew_of (reading c.args.form (view_of c.args.at.now) c.args.regs.now (g.S.WordFile.words c.args.file.now)))) c.in-VzextVf8.is)
 
 pub extended_word-requires-clause-extends : goal.extended_word-requires-clause-extends
 extended_word-requires-clause-extends g c mode l = ap (λ (f : Family). answer f (numbers_of c.args.sew mode l)) c.in-VzextVf8.is
@@ -81,10 +82,10 @@ pub extended_word-requires-in-VsextVf8-clause-groups : goal.extended_word-requir
 extended_word-requires-in-VsextVf8-clause-groups g c = extension_groups c.args.form.family c.args.form.first c.args.form.vm c.requires.kind (ap is_extension c.in-VsextVf8.is)
 
 pub extended_word-requires-in-VsextVf8-clause-width : goal.extended_word-requires-in-VsextVf8-clause-width
-extended_word-requires-in-VsextVf8-clause-width g c = c.requires.sew ∙ sym (ap (λ (f : Family). width_of (operands_of f).destination (sew_of (reading c.args.form c.args.at.now c.args.regs.now (g.S.WordFile.words c.args.file.now)))) c.in-VsextVf8.is)
+extended_word-requires-in-VsextVf8-clause-width g c = c.requires.sew ∙ sym (ap (λ (f : Family). width_of (operands_of f).destination (sew_of (reading c.args.form (view_of c.args.at.now) c.args.regs.now (g.S.WordFile.words c.args.file.now)))) c.in-VsextVf8.is)
 
 pub extended_word-requires-in-VsextVf8-clause-narrow : goal.extended_word-requires-in-VsextVf8-clause-narrow
-extended_word-requires-in-VsextVf8-clause-narrow g c = ap (λ s. s / 8) c.requires.sew ∙ sym (ap (λ (f : Family). width_of (operands_of f).vs2 (sew_of (reading c.args.form c.args.at.now c.args.regs.now (g.S.WordFile.words c.args.file.now)))) c.in-VsextVf8.is)
+extended_word-requires-in-VsextVf8-clause-narrow g c = ap (λ s. s / 8) c.requires.sew ∙ sym (ap (λ (f : Family). width_of (operands_of f).vs2 (sew_of (reading c.args.form (view_of c.args.at.now) c.args.regs.now (g.S.WordFile.words c.args.file.now)))) c.in-VsextVf8.is)
 
 pub extended_word-requires-in-VsextVf8-clause-extends : goal.extended_word-requires-in-VsextVf8-clause-extends
 extended_word-requires-in-VsextVf8-clause-extends g c mode l = ap (λ (f : Family). answer f (numbers_of c.args.sew mode l)) c.in-VsextVf8.is
@@ -96,10 +97,10 @@ pub extended_word-requires-in-VzextVf4-clause-groups : goal.extended_word-requir
 extended_word-requires-in-VzextVf4-clause-groups g c = extension_groups c.args.form.family c.args.form.first c.args.form.vm c.requires.kind (ap is_extension c.in-VzextVf4.is)
 
 pub extended_word-requires-in-VzextVf4-clause-width : goal.extended_word-requires-in-VzextVf4-clause-width
-extended_word-requires-in-VzextVf4-clause-width g c = c.requires.sew ∙ sym (ap (λ (f : Family). width_of (operands_of f).destination (sew_of (reading c.args.form c.args.at.now c.args.regs.now (g.S.WordFile.words c.args.file.now)))) c.in-VzextVf4.is)
+extended_word-requires-in-VzextVf4-clause-width g c = c.requires.sew ∙ sym (ap (λ (f : Family). width_of (operands_of f).destination (sew_of (reading c.args.form (view_of c.args.at.now) c.args.regs.now (g.S.WordFile.words c.args.file.now)))) c.in-VzextVf4.is)
 
 pub extended_word-requires-in-VzextVf4-clause-narrow : goal.extended_word-requires-in-VzextVf4-clause-narrow
-extended_word-requires-in-VzextVf4-clause-narrow g c = ap (λ s. s / 4) c.requires.sew ∙ sym (ap (λ (f : Family). width_of (operands_of f).vs2 (sew_of (reading c.args.form c.args.at.now c.args.regs.now (g.S.WordFile.words c.args.file.now)))) c.in-VzextVf4.is)
+extended_word-requires-in-VzextVf4-clause-narrow g c = ap (λ s. s / 4) c.requires.sew ∙ sym (ap (λ (f : Family). width_of (operands_of f).vs2 (sew_of (reading c.args.form (view_of c.args.at.now) c.args.regs.now (g.S.WordFile.words c.args.file.now)))) c.in-VzextVf4.is)
 
 pub extended_word-requires-in-VzextVf4-clause-extends : goal.extended_word-requires-in-VzextVf4-clause-extends
 extended_word-requires-in-VzextVf4-clause-extends g c mode l = ap (λ (f : Family). answer f (numbers_of c.args.sew mode l)) c.in-VzextVf4.is
@@ -111,10 +112,10 @@ pub extended_word-requires-in-VsextVf4-clause-groups : goal.extended_word-requir
 extended_word-requires-in-VsextVf4-clause-groups g c = extension_groups c.args.form.family c.args.form.first c.args.form.vm c.requires.kind (ap is_extension c.in-VsextVf4.is)
 
 pub extended_word-requires-in-VsextVf4-clause-width : goal.extended_word-requires-in-VsextVf4-clause-width
-extended_word-requires-in-VsextVf4-clause-width g c = c.requires.sew ∙ sym (ap (λ (f : Family). width_of (operands_of f).destination (sew_of (reading c.args.form c.args.at.now c.args.regs.now (g.S.WordFile.words c.args.file.now)))) c.in-VsextVf4.is)
+extended_word-requires-in-VsextVf4-clause-width g c = c.requires.sew ∙ sym (ap (λ (f : Family). width_of (operands_of f).destination (sew_of (reading c.args.form (view_of c.args.at.now) c.args.regs.now (g.S.WordFile.words c.args.file.now)))) c.in-VsextVf4.is)
 
 pub extended_word-requires-in-VsextVf4-clause-narrow : goal.extended_word-requires-in-VsextVf4-clause-narrow
-extended_word-requires-in-VsextVf4-clause-narrow g c = ap (λ s. s / 4) c.requires.sew ∙ sym (ap (λ (f : Family). width_of (operands_of f).vs2 (sew_of (reading c.args.form c.args.at.now c.args.regs.now (g.S.WordFile.words c.args.file.now)))) c.in-VsextVf4.is)
+extended_word-requires-in-VsextVf4-clause-narrow g c = ap (λ s. s / 4) c.requires.sew ∙ sym (ap (λ (f : Family). width_of (operands_of f).vs2 (sew_of (reading c.args.form (view_of c.args.at.now) c.args.regs.now (g.S.WordFile.words c.args.file.now)))) c.in-VsextVf4.is)
 
 pub extended_word-requires-in-VsextVf4-clause-extends : goal.extended_word-requires-in-VsextVf4-clause-extends
 extended_word-requires-in-VsextVf4-clause-extends g c mode l = ap (λ (f : Family). answer f (numbers_of c.args.sew mode l)) c.in-VsextVf4.is
@@ -126,10 +127,10 @@ pub extended_word-requires-in-VzextVf2-clause-groups : goal.extended_word-requir
 extended_word-requires-in-VzextVf2-clause-groups g c = extension_groups c.args.form.family c.args.form.first c.args.form.vm c.requires.kind (ap is_extension c.in-VzextVf2.is)
 
 pub extended_word-requires-in-VzextVf2-clause-width : goal.extended_word-requires-in-VzextVf2-clause-width
-extended_word-requires-in-VzextVf2-clause-width g c = c.requires.sew ∙ sym (ap (λ (f : Family). width_of (operands_of f).destination (sew_of (reading c.args.form c.args.at.now c.args.regs.now (g.S.WordFile.words c.args.file.now)))) c.in-VzextVf2.is)
+extended_word-requires-in-VzextVf2-clause-width g c = c.requires.sew ∙ sym (ap (λ (f : Family). width_of (operands_of f).destination (sew_of (reading c.args.form (view_of c.args.at.now) c.args.regs.now (g.S.WordFile.words c.args.file.now)))) c.in-VzextVf2.is)
 
 pub extended_word-requires-in-VzextVf2-clause-narrow : goal.extended_word-requires-in-VzextVf2-clause-narrow
-extended_word-requires-in-VzextVf2-clause-narrow g c = ap (λ s. s / 2) c.requires.sew ∙ sym (ap (λ (f : Family). width_of (operands_of f).vs2 (sew_of (reading c.args.form c.args.at.now c.args.regs.now (g.S.WordFile.words c.args.file.now)))) c.in-VzextVf2.is)
+extended_word-requires-in-VzextVf2-clause-narrow g c = ap (λ s. s / 2) c.requires.sew ∙ sym (ap (λ (f : Family). width_of (operands_of f).vs2 (sew_of (reading c.args.form (view_of c.args.at.now) c.args.regs.now (g.S.WordFile.words c.args.file.now)))) c.in-VzextVf2.is)
 
 pub extended_word-requires-in-VzextVf2-clause-extends : goal.extended_word-requires-in-VzextVf2-clause-extends
 extended_word-requires-in-VzextVf2-clause-extends g c mode l = ap (λ (f : Family). answer f (numbers_of c.args.sew mode l)) c.in-VzextVf2.is
@@ -141,10 +142,10 @@ pub extended_word-requires-in-VsextVf2-clause-groups : goal.extended_word-requir
 extended_word-requires-in-VsextVf2-clause-groups g c = extension_groups c.args.form.family c.args.form.first c.args.form.vm c.requires.kind (ap is_extension c.in-VsextVf2.is)
 
 pub extended_word-requires-in-VsextVf2-clause-width : goal.extended_word-requires-in-VsextVf2-clause-width
-extended_word-requires-in-VsextVf2-clause-width g c = c.requires.sew ∙ sym (ap (λ (f : Family). width_of (operands_of f).destination (sew_of (reading c.args.form c.args.at.now c.args.regs.now (g.S.WordFile.words c.args.file.now)))) c.in-VsextVf2.is)
+extended_word-requires-in-VsextVf2-clause-width g c = c.requires.sew ∙ sym (ap (λ (f : Family). width_of (operands_of f).destination (sew_of (reading c.args.form (view_of c.args.at.now) c.args.regs.now (g.S.WordFile.words c.args.file.now)))) c.in-VsextVf2.is)
 
 pub extended_word-requires-in-VsextVf2-clause-narrow : goal.extended_word-requires-in-VsextVf2-clause-narrow
-extended_word-requires-in-VsextVf2-clause-narrow g c = ap (λ s. s / 2) c.requires.sew ∙ sym (ap (λ (f : Family). width_of (operands_of f).vs2 (sew_of (reading c.args.form c.args.at.now c.args.regs.now (g.S.WordFile.words c.args.file.now)))) c.in-VsextVf2.is)
+extended_word-requires-in-VsextVf2-clause-narrow g c = ap (λ s. s / 2) c.requires.sew ∙ sym (ap (λ (f : Family). width_of (operands_of f).vs2 (sew_of (reading c.args.form (view_of c.args.at.now) c.args.regs.now (g.S.WordFile.words c.args.file.now)))) c.in-VsextVf2.is)
 
 pub extended_word-requires-in-VsextVf2-clause-extends : goal.extended_word-requires-in-VsextVf2-clause-extends
 extended_word-requires-in-VsextVf2-clause-extends g c mode l = ap (λ (f : Family). answer f (numbers_of c.args.sew mode l)) c.in-VsextVf2.is

@@ -1,4 +1,5 @@
 -- All operands are as many registers.
+use Rattle.vx_vstate.specs.Views.{view_of}
 use Rattle.std.proofs.Common.{◌≡◌, ℕ, ◌+◌, ◌*◌, ◌/◌, ◌<◌, ◌∙◌, sym, ap, IsTrue, subst}
 use Rattle.std.proofs.lemmas.Bool.{true≢false}
 use Rattle.vx_bits.specs.Width.{is_width}
@@ -19,13 +20,13 @@ use Rattle.vx_operands.proofs.grouped.whole_word.Goals as goal
 
 pub group_word-old-requires-clause-within : goal.group_word-old-requires-clause-within
 group_word-old-requires-clause-within g c =
-    let r = reading c.args.form c.args.at.now c.args.regs.now (g.S.WordFile.words c.args.file.now) in
+    let r = reading c.args.form (view_of c.args.at.now) c.args.regs.now (g.S.WordFile.words c.args.file.now) in
     let whole = whole_of r (operands_of c.args.form.family) c.args.form.vm c.requires.whole in
     destination_place r c.args.w whole.destination.there c.requires.sound.destination c.requires.within
 
 pub group_word-requires-clause-within : goal.group_word-requires-clause-within
 group_word-requires-clause-within g c =
-    let r = reading c.args.form c.args.at.now c.args.regs.now (g.S.WordFile.words c.args.file.now) in
+    let r = reading c.args.form (view_of c.args.at.now) c.args.regs.now (g.S.WordFile.words c.args.file.now) in
     let whole = whole_of r (operands_of c.args.form.family) c.args.form.vm c.requires.whole in
     let words = words_of_group r (operands_of c.args.form.family).destination c.args.regs.now.vd whole.destination.there in
     let n = registers_of_operand r (operands_of c.args.form.family).vs2 in
@@ -35,7 +36,7 @@ group_word-requires-clause-within g c =
 
 pub merged_word-requires-clause-begins : goal.merged_word-requires-clause-begins
 merged_word-requires-clause-begins g c =
-    let r = reading c.args.form c.args.at.now c.args.regs.now (g.S.WordFile.words c.args.file.now) in
+    let r = reading c.args.form (view_of c.args.at.now) c.args.regs.now (g.S.WordFile.words c.args.file.now) in
     let whole = whole_of r (operands_of c.args.form.family) c.args.form.vm c.requires.whole in
     let words = words_of_group r (operands_of c.args.form.family).destination c.args.regs.now.vd whole.destination.there in
     let below = subst (λ m. c.args.w < m) (words ∙ ap (λ m. m * (c.args.at.now.vlen / 64)) (whole.destination.registers ∙ sym c.requires.registers)) c.requires.within in
@@ -50,7 +51,7 @@ made r w sew new s width d a is copies =
 
 pub returns-clause-value : goal.returns-clause-value
 returns-clause-value g c =
-    let r = reading c.args.form c.args.at.now c.args.regs.now (g.S.WordFile.words c.args.file.now) in
+    let r = reading c.args.form (view_of c.args.at.now) c.args.regs.now (g.S.WordFile.words c.args.file.now) in
     let whole = whole_of r (operands_of c.args.form.family) c.args.form.vm c.requires.whole in
     let d = c.requires.sew ∙ sym whole.destination.width in
     let count = count_of_whole r whole in
@@ -59,7 +60,7 @@ returns-clause-value g c =
 
 pub returns-clause-sat : goal.returns-clause-sat
 returns-clause-sat g c =
-    let r = reading c.args.form c.args.at.now c.args.regs.now (g.S.WordFile.words c.args.file.now) in
+    let r = reading c.args.form (view_of c.args.at.now) c.args.regs.now (g.S.WordFile.words c.args.file.now) in
     let whole = whole_of r (operands_of c.args.form.family) c.args.form.vm c.requires.whole in
     let d = c.requires.sew ∙ sym whole.destination.width in
     let count = count_of_whole r whole in

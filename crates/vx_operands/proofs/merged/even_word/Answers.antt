@@ -1,4 +1,5 @@
 -- All operands have as many elements a word.
+use Rattle.vx_vstate.specs.Views.{view_of}
 use Rattle.std.proofs.Common.{◌*◌, ◌/◌, ◌<◌, ◌≤◌, ◌∙◌, sym, ap, IsTrue, subst, not, arith}
 use Rattle.vx_bits.specs.Width.{is_width}
 use Rattle.vx_packed.specs.declared.elements.Sources.{Sources}
@@ -15,7 +16,7 @@ use Rattle.vx_operands.proofs.merged.even_word.Goals as goal
 
 pub returns-then-at-w-clause-value : goal.returns-then-at-w-clause-value
 returns-then-at-w-clause-value g c =
-    let r = reading c.args.form c.args.at.now c.args.regs.now (g.S.WordFile.words c.args.file.now) in
+    let r = reading c.args.form (view_of c.args.at.now) c.args.regs.now (g.S.WordFile.words c.args.file.now) in
     let even = even_of c.args.form.first (operands_of c.args.form.family) c.requires.even in
     let d = destination_even r even in
     let width = subst (λ n. IsTrue (is_width n)) (c.requires.sew ∙ sym d) c.requires.width in
@@ -24,7 +25,7 @@ returns-then-at-w-clause-value g c =
 
 pub returns-then-at-w-clause-sat : goal.returns-then-at-w-clause-sat
 returns-then-at-w-clause-sat g c =
-    let r = reading c.args.form c.args.at.now c.args.regs.now (g.S.WordFile.words c.args.file.now) in
+    let r = reading c.args.form (view_of c.args.at.now) c.args.regs.now (g.S.WordFile.words c.args.file.now) in
     let even = even_of c.args.form.first (operands_of c.args.form.family) c.requires.even in
     let d = destination_even r even in
     let late = subst (λ n. c.args.at.now.vl ≤ c.args.w * (64 / n)) (c.requires.sew ∙ sym d) c.if-at-w.true in
@@ -32,7 +33,7 @@ returns-then-at-w-clause-sat g c =
 
 pub overflow_mul-w : goal.overflow_mul-w
 overflow_mul-w g c =
-    let r = reading c.args.form c.args.at.now c.args.regs.now (g.S.WordFile.words c.args.file.now) in
+    let r = reading c.args.form (view_of c.args.at.now) c.args.regs.now (g.S.WordFile.words c.args.file.now) in
     let even = even_of c.args.form.first (operands_of c.args.form.family) c.requires.even in
     let place = destination_place r c.args.w (ap (λ (o : Operand). not (is_absent o)) even.destination) c.requires.sound.destination c.requires.within in
     let small = word_small c.args.w (c.args.regs.now.vd * (c.args.at.now.vlen / 64)) (c.args.at.now.vlen / 64) (64 / c.args.sew) place (registers_small c.args.at.now.vlen c.args.at.now.vlen_in_range) (per_word-le c.args.sew c.requires.width) in
@@ -40,30 +41,30 @@ overflow_mul-w g c =
 
 pub group_word-old-requires-clause-within : goal.group_word-old-requires-clause-within
 group_word-old-requires-clause-within g c =
-    let r = reading c.args.form c.args.at.now c.args.regs.now (g.S.WordFile.words c.args.file.now) in
+    let r = reading c.args.form (view_of c.args.at.now) c.args.regs.now (g.S.WordFile.words c.args.file.now) in
     let even = even_of c.args.form.first (operands_of c.args.form.family) c.requires.even in
     destination_place r c.args.w (ap (λ (o : Operand). not (is_absent o)) even.destination) c.requires.sound.destination c.requires.within
 
 pub group_word-requires-clause-within : goal.group_word-requires-clause-within
 group_word-requires-clause-within g c =
-    let r = reading c.args.form c.args.at.now c.args.regs.now (g.S.WordFile.words c.args.file.now) in
+    let r = reading c.args.form (view_of c.args.at.now) c.args.regs.now (g.S.WordFile.words c.args.file.now) in
     let even = even_of c.args.form.first (operands_of c.args.form.family) c.requires.even in
     let width = subst (λ n. IsTrue (is_width n)) c.requires.sew c.requires.width in
     let early = subst (λ n. c.args.w * (64 / n) < c.args.at.now.vl) c.requires.sew c.if-at-w.false in
-    placed_word r (operands_of c.args.form.family).vs2 c.args.regs.now.vs2 c.args.w even.vs2 c.requires.sound.vs2 width early
+    placed_word r c.requires.sound.setting (operands_of c.args.form.family).vs2 c.args.regs.now.vs2 c.args.w even.vs2 c.requires.sound.vs2 width early
 
 pub second_word-requires-clause-within : goal.second_word-requires-clause-within
 second_word-requires-clause-within g c e =
-    let r = reading c.args.form c.args.at.now c.args.regs.now (g.S.WordFile.words c.args.file.now) in
+    let r = reading c.args.form (view_of c.args.at.now) c.args.regs.now (g.S.WordFile.words c.args.file.now) in
     let even = even_of c.args.form.first (operands_of c.args.form.family) c.requires.even in
     let width = subst (λ n. IsTrue (is_width n)) c.requires.sew c.requires.width in
     let early = subst (λ n. c.args.w * (64 / n) < c.args.at.now.vl) c.requires.sew c.if-at-w.false in
     let placed = subst (λ (o : Operand). IsPlaced r o c.args.regs.now.vs1) (vs1_is r e) c.requires.sound.vs1 in
-    placed_word r (operands_of c.args.form.family).vs1 c.args.regs.now.vs1 c.args.w (even.vs1 e) placed width early
+    placed_word r c.requires.sound.setting (operands_of c.args.form.family).vs1 c.args.regs.now.vs1 c.args.w (even.vs1 e) placed width early
 
 pub returns-clause-value : goal.returns-clause-value
 returns-clause-value g c =
-    let r = reading c.args.form c.args.at.now c.args.regs.now (g.S.WordFile.words c.args.file.now) in
+    let r = reading c.args.form (view_of c.args.at.now) c.args.regs.now (g.S.WordFile.words c.args.file.now) in
     let even = even_of c.args.form.first (operands_of c.args.form.family) c.requires.even in
     let width = subst (λ n. IsTrue (is_width n)) c.requires.sew c.requires.width in
     let d = c.requires.sew ∙ sym (destination_even r even) in
@@ -74,7 +75,7 @@ returns-clause-value g c =
 
 pub returns-clause-sat : goal.returns-clause-sat
 returns-clause-sat g c =
-    let r = reading c.args.form c.args.at.now c.args.regs.now (g.S.WordFile.words c.args.file.now) in
+    let r = reading c.args.form (view_of c.args.at.now) c.args.regs.now (g.S.WordFile.words c.args.file.now) in
     let even = even_of c.args.form.first (operands_of c.args.form.family) c.requires.even in
     let width = subst (λ n. IsTrue (is_width n)) c.requires.sew c.requires.width in
     let d = c.requires.sew ∙ sym (destination_even r even) in
