@@ -1,4 +1,5 @@
 -- What holds of the families by their kinds.
+use Rattle.vx_packed.specs.Made.{IsPacking}
 use Rattle.std.proofs.Common.{◌≡◌, ℕ, ◌*◌, ◌/◌, ◌<◌, ◌≤◌, Bool, true, false, not, ◌&&◌, ◌||◌, IsTrue, nat_eq, refl, sym, ap, ◌∙◌, subst, ⊎_elim, arith}
 use Rattle.std.proofs.lemmas.Bool.{false≢true, and_parts, or_cases, eqb-true}
 use Rattle.vx_bits.specs.Width.{is_width}
@@ -160,3 +161,20 @@ even_some d h = wide_fits d d h h (omega arith)
 pub no_elem : (op : Op) → IsTrue (is_elem op) → ((x : ElemOp) → op ≡ Elem x → ⊥) → ⊥
 no_elem (Elem x) h n = n x refl
 no_elem other h n = absurd (false≢true h)
+
+-- elements of a width, each extended from another, are as many as a word holds
+pub packed : (a d : ℕ) → Fits a d → IsTrue (is_width d) → IsPacking (record { count = 64 / d; width = d; a = a; b = d })
+packed a d fit h = record {
+  width = is_some d h;
+  a = fit.some;
+  b = is_some d h;
+  width_fits = by_width (λ d. 64 / d * d ≤ 64) d h (omega arith) (omega arith) (omega arith) (omega arith);
+  a_fits = fit.bits;
+  b_fits = by_width (λ d. 64 / d * d ≤ 64) d h (omega arith) (omega arith) (omega arith) (omega arith);
+}
+  where
+    is_some : (d : ℕ) → IsTrue (is_width d) → 0 < d
+    is_some d h = by_width (λ d. 0 < d) d h (omega arith) (omega arith) (omega arith) (omega arith)
+
+pub le_64 : (a d : ℕ) → IsTrue (is_width d) → a ≤ d → a ≤ 64
+le_64 a d h l = by_width (λ d. a ≤ d → a ≤ 64) d h (λ k. omega arith) (λ k. omega arith) (λ k. omega arith) (λ k. omega arith) l

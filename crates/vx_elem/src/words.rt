@@ -1,5 +1,5 @@
 ghost use Rattle.vx_vstate.specs.Views.{view_of};
-ghost use Rattle.std.specs.Prelude.{IsTrue, ◌≡◌, ℕ, ◌*◌, ◌/◌, ◌<◌, ◌≤◌, length, if◌then◌else◌};
+ghost use Rattle.std.specs.Prelude.{IsTrue, ◌≡◌, ℕ, ◌*◌, ◌/◌, ◌^◌, ◌<◌, ◌≤◌, length, if◌then◌else◌};
 ghost use Rattle.vx_bits.specs.Width.{is_width};
 ghost use Rattle.vx_elem.specs.Kinds.{is_elem, is_elem_form, is_other};
 ghost use Rattle.vx_operands.specs.Forms.{form_of, reading};
@@ -13,13 +13,13 @@ ghost use Rattle.vx_vector.specs.Numbers.{extended_at, plain};
 ghost use Rattle.vx_vector.specs.Reading.{sew_of, destination_width, vs2_width};
 ghost use Rattle.vx_vector.specs.Rules.{rule_of};
 ghost use Rattle.vx_vector.specs.Words.{destination_words};
-ghost use Rattle.vx_vstate.specs.Registers.{word_at};
+ghost use Rattle.vx_vstate.specs.Registers.{place_of, word_at, words_of_all};
 
 use crate::form::form_of;
 use crate::kinds::is_plain;
 use crate::lanes::lanes;
 use vx_bits::{reduce, signed_reading};
-use vx_operands::{Form, even_word, moved_word, plain, whole_word, wide_word};
+use vx_operands::{Form, even_word, group_word, moved_word, plain, whole_word, wide_word};
 use vx_packed::{Made, Packing, Sources, make};
 use vx_rows::{Family, Op};
 use vx_vector::{Places, Word, words_are_made};
@@ -159,6 +159,16 @@ fn word_of_form<S: WordFile>(form: Form, file: &S, at: &Setting, regs: &Places, 
     }
 }
 
+/// Word `w` of the group that begins at a register is a number of 64 bits.
+#[inline(always)]
+fn has_a_word<S: WordFile>(file: &S, at: &Setting, register: u8, w: u32)
+    requires same { S.vlen file.now ≡ at.now.vlen }
+    requires within { place_of at.now.vlen register w < words_of_all at.now.vlen }
+    ensures { word_at at.now.vlen (S.words file.now) register w < 2 ^ 64 }
+{
+    let _word = group_word(file, at, register, w);
+}
+
 /// Word `w` of the destination, counted from its first register on, as an instruction leaves it: active elements are the
 /// operation's results, and all others stay. Whether an element of it saturated: none does. The operation is one of this
 /// crate, and the instruction is legal under the setting.
@@ -171,6 +181,7 @@ pub fn word<S: WordFile>(op: Op, at: &Setting, file: &S, regs: &Places, w: u32) 
     ensures sat { result.sat ≡ word_saturates (reading (form_of op) (view_of at.now) regs.now (S.words file.now)) w }
 {
     words_are_made();
+    has_a_word(file, at, regs.vd, w);
     match op {
         Op::Elem(op) => word_of_form(form_of(op), file, at, regs, w),
         _ => unreachable!(),

@@ -78,6 +78,11 @@ pub words_of_group : (r : Reading) (o : Operand) (register : ℕ) → IsTrue (no
 words_of_group r Absent register h = absurd (false≢true h)
 words_of_group r other register h = length-range_with_len (place_of r.at.vlen register 0) (registers_of_operand r other * words_of_register r.at.vlen)
 
+-- an operand that has a word is there
+pub is_there : (r : Reading) (o : Operand) (register w : ℕ) → w < length (places_of_operand r o register) → IsTrue (not (is_absent o))
+is_there r Absent register w l = absurd (omega (arith, l))
+is_there r other register w l = refl
+
 pub destination_place : (r : Reading) (w : ℕ) → IsTrue (not (is_absent (operands_of r.family).destination)) → IsPlaced r (operands_of r.family).destination r.places.vd → w < length (destination_words r) → place_of r.at.vlen r.places.vd w < words_of_all r.at.vlen
 destination_place r w h placed l =
     in_place r.places.vd (registers_of_operand r (operands_of r.family).destination) w (r.at.vlen / 64) placed.room (subst (λ n. w < n) (words_of_group r (operands_of r.family).destination r.places.vd h) l)
