@@ -1,0 +1,3 @@
+pub mod Facts
+pub mod Left
+pub mod Unrounded

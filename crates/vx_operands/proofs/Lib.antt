@@ -1,0 +1,5 @@
+pub mod Even
+pub mod Groups
+pub mod Merging
+pub mod Places
+pub mod Moves

@@ -1,0 +1,17 @@
+//! Operands of vector arithmetic, a word at a time: the words from which a word of the destination is made, which of its
+//! elements are active, and the word that holds the new elements where they are and the old ones elsewhere.
+//!
+//! It stands on the definitions of `vx_vector` and on the words of elements of `vx_packed`. The crates that make words
+//! (`vx_elem` and its kin) add what an element becomes. A word that is given back is proved to be the one that the
+//! instruction leaves in its place.
+#![tactic(auto)]
+
+mod form;
+mod grouped;
+mod merged;
+mod sources;
+
+pub use form::{Form, is_less, is_unmasked, plain};
+pub use grouped::{moved_word, whole_word, wide_word};
+pub use merged::{even_word, kept, merged_word};
+pub use sources::{group_word, mask_word, part, second_part, second_word};
