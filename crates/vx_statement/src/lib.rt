@@ -1,0 +1,10 @@
+//! One statement of the assembler's language: what its name is, the forms that it may have, its faults, and the bytes that it
+//! gives.
+//!
+//! It stands on `vx_language`, whose definitions say all of this, on `vx_lex`, which tells what a number and a text mean, and
+//! on `vx_decode`, which makes words of instructions. To the crate above it gives statements, judged and turned into bytes.
+#![tactic(auto)]
+
+mod names;
+
+pub use names::{control_number, instr_named, register_number};
