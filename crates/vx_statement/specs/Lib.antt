@@ -1,1 +1,6 @@
 pub mod Controls
+pub mod Firsts
+pub mod Knowing
+pub mod Lexemes
+pub mod Ranges
+pub mod Slots

@@ -5,6 +5,14 @@
 //! on `vx_decode`, which makes words of instructions. To the crate above it gives statements, judged and turned into bytes.
 #![tactic(auto)]
 
+mod faults;
+mod lexeme;
 mod names;
+mod range;
+mod slot;
 
+pub use faults::{earlier, first};
+pub use lexeme::Lexeme;
 pub use names::{control_number, instr_named, register_number};
+pub use range::{Range, Reach};
+pub use slot::Slot;
