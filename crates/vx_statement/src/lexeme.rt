@@ -1,8 +1,4 @@
 ghost use Rattle.std.specs.Prelude.{◌≡◌, ◌+◌, [], ◌∷◌, length};
-ghost use Rattle.vx_language.specs.Faults.{fault_at};
-ghost use Rattle.vx_language.specs.Lexemes.{is_a};
-ghost use Rattle.vx_language.specs.Lines.{is_the_mark};
-ghost use Rattle.vx_statement.specs.Lexemes.{piece_of};
 
 use vx_language::{Fault, FaultKind, PieceKind, Span, TokenKind};
 
@@ -17,9 +13,15 @@ pub struct Lexeme<'a> {
     pub end: u64,
     /// Its bytes.
     pub text: &'a [u8],
+    ghost whole: { start + length text.now ≡ end },
 }
 
 impl Lexeme<'_> {
+    ghost use Rattle.vx_language.specs.Faults.{fault_at};
+    ghost use Rattle.vx_language.specs.Lexemes.{is_a};
+    ghost use Rattle.vx_language.specs.Lines.{is_the_mark};
+    ghost use Rattle.vx_statement.specs.Lexemes.{piece_of};
+
     /// Whether it is a token of this kind, good or bad.
     #[tactic(auto, unfolding(vx_language::specs::Lexemes::is_a))]
     pub fn is_a(&self, kind: TokenKind) -> bool
@@ -43,7 +45,6 @@ impl Lexeme<'_> {
 
     /// A fault of this kind that names it.
     pub fn fault(&self, kind: FaultKind) -> Fault
-        requires { self.now.start + length self.now.text.now ≡ self.now.end }
         ensures { result ≡ fault_at kind (piece_of self.now) }
     {
         Fault {

@@ -6,13 +6,19 @@
 #![tactic(auto)]
 
 mod faults;
+mod form;
+mod labels;
 mod lexeme;
 mod names;
 mod range;
 mod slot;
+mod way;
 
 pub use faults::{earlier, first};
+pub use form::{Action, Expansion, Form, NamedForm, Section, listed_forms};
+pub use labels::Labels;
 pub use lexeme::Lexeme;
 pub use names::{control_number, instr_named, register_number};
 pub use range::{Range, Reach};
 pub use slot::Slot;
+pub use way::Way;
