@@ -1,3 +1,4 @@
 pub mod Lookups
 pub mod Numbers
 pub mod Labelled
+pub mod Steps

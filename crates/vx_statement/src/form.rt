@@ -56,6 +56,16 @@ pub struct Form {
     pub action: Action,
 }
 
+impl Default for Form {
+    /// The form with no slots, which does nothing.
+    fn default() -> Form {
+        Form {
+            way: Way::Slots(&[]),
+            action: Action::Rests,
+        }
+    }
+}
+
 /// A form, and its name.
 #[derive(Clone, Copy)]
 pub struct NamedForm {

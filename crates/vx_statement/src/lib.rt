@@ -7,15 +7,18 @@
 
 mod faults;
 mod form;
+mod forms;
 mod labels;
 mod lexeme;
 mod names;
 mod range;
 mod slot;
 mod way;
+mod ways;
 
 pub use faults::{earlier, first};
 pub use form::{Action, Expansion, Form, NamedForm, Section, listed_forms};
+pub use forms::forms_of;
 pub use labels::Labels;
 pub use lexeme::Lexeme;
 pub use names::{control_number, instr_named, register_number};

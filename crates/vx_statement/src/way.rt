@@ -20,6 +20,13 @@ pub enum Way {
     More(Range),
 }
 
+impl Default for Way {
+    /// No slots.
+    fn default() -> Way {
+        Way::Slots(&[])
+    }
+}
+
 impl Way {
     /// Whether the line may end here.
     pub fn is_done(self) -> bool
@@ -34,27 +41,50 @@ impl Way {
 
     /// The slot that takes the token, and the way behind it, where the way goes on with the token.
     pub fn step(self, token: &Lexeme<'_>) -> Option<(Slot, Way)>
-        ensures { (rest : List Piece) → Steps self.entry (piece_of token.now) rest result }
+        ensures { (rest : List Piece) → Steps self (piece_of token.now) rest result }
     {
         match self {
-            Way::Slots(slots) => {
-                let (slot, later) = slots.split_first()?;
-                if slot.takes(token) { Some((*slot, Way::Slots(later))) } else { None }
-            }
-            Way::Numbers(range) => {
-                if token.is_a(TokenKind::Number) {
-                    Some((Slot::Datum(range), Way::More(range)))
-                } else {
-                    None
-                }
-            }
-            Way::More(range) => {
-                if token.is_mark(b',') {
-                    Some((Slot::Mark(b','), Way::Numbers(range)))
-                } else {
-                    None
-                }
-            }
+            Way::Slots(slots) => step_slot(slots, token),
+            Way::Numbers(range) => step_number(range, token),
+            Way::More(range) => step_comma(range, token),
         }
+    }
+}
+
+/// A step of slots.
+fn step_slot(slots: &'static [Slot], token: &Lexeme<'_>) -> Option<(Slot, Way)>
+    ensures { (rest : List Piece) → Steps (Way.Slots slots.entry) (piece_of token.now) rest result }
+{
+    let Some((slot, later)) = slots.split_first() else {
+        return None;
+    };
+    if slot.takes(token) {
+        Some((*slot, Way::Slots(later)))
+    } else {
+        None
+    }
+}
+
+/// A step to a number.
+#[tactic(auto, using(crate::proofs::Steps::number_taken, crate::proofs::Steps::number_refused))]
+fn step_number(range: Range, token: &Lexeme<'_>) -> Option<(Slot, Way)>
+    ensures { (rest : List Piece) → Steps (Way.Numbers range) (piece_of token.now) rest result }
+{
+    if token.is_a(TokenKind::Number) {
+        Some((Slot::Datum(range), Way::More(range)))
+    } else {
+        None
+    }
+}
+
+/// A step over a comma.
+#[tactic(auto, using(crate::proofs::Steps::comma_taken, crate::proofs::Steps::comma_refused))]
+fn step_comma(range: Range, token: &Lexeme<'_>) -> Option<(Slot, Way)>
+    ensures { (rest : List Piece) → Steps (Way.More range) (piece_of token.now) rest result }
+{
+    if token.is_mark(b',') {
+        Some((Slot::Mark(b','), Way::Numbers(range)))
+    } else {
+        None
     }
 }
