@@ -1,3 +1,4 @@
+pub mod Advances
 pub mod Controls
 pub mod Firsts
 pub mod Knowing

@@ -1,0 +1,69 @@
+-- The faults of operands, token by token.
+use Rattle.std.proofs.Common.{◌≡◌, ℕ, Bool, true, false, cond, List, [], ◌∷◌, ◌++◌, map, filter, drop, Option, Some, None, option_map, refl, sym, ap, ◌∙◌}
+use Rattle.vx_language.specs.Faults.{fault_at, first_of, earlier}
+use Rattle.vx_language.specs.Lexemes.{Piece}
+use Rattle.vx_language.specs.Slots.{token_faults}
+use Rattle.vx_language.specs.Slots as slots
+use Rattle.vx_language.specs.Statements.{go_on_with, first_slot_faults, operand_faults}
+use Rattle.vx_language.specs.declared.fault.Fault.{Fault}
+use Rattle.vx_language.specs.declared.fault.FaultKind.TheVariants.{BadOperand}
+use Rattle.vx_statement.specs.Advances.{Advances, heads, going_on}
+use Rattle.vx_statement.specs.Firsts.{first}
+use Rattle.vx_statement.specs.Slots.{slot_of}
+use Rattle.vx_statement.specs.Ways.{commas_in, way_slots}
+use Rattle.vx_statement.specs.declared.slot.Slot.{Slot}
+use Rattle.vx_statement.specs.declared.way.Way.{Way}
+use Rattle.vx_statement.proofs.Firsts.{first_of-append}
+
+-- the faults from a token on, where these ways go on with it
+judged : List (List ℕ) → ℕ → Piece → List Piece → List (List slots.Slot) → List Fault
+judged names end piece rest going =
+    elim going [
+      | [] ↦ fault_at BadOperand piece ∷ []
+      | way ∷ more ↦ first_slot_faults names piece way ++ operand_faults names end (map (drop 1) (way ∷ more)) rest
+    ]
+
+faults-judged : (names : List (List ℕ)) (end : ℕ) (piece : Piece) (rest : List Piece) (ways : List (List slots.Slot)) → operand_faults names end ways (piece ∷ rest) ≡ judged names end piece rest (filter (go_on_with piece) ways)
+unfolding operand_faults judged
+faults-judged names end piece rest ways = refl
+
+-- each of those that go on with a token has a slot
+all-have : Piece → List (List slots.Slot) → Type 0
+all-have piece [] = Unit {0}
+all-have piece ([] ∷ more) = ⊥
+all-have piece ((slot ∷ later) ∷ more) = all-have piece more
+
+all-have-more : (piece : Piece) (way : List slots.Slot) (b : Bool) (kept : List (List slots.Slot)) → go_on_with piece way ≡ b → all-have piece kept → all-have piece (cond b (way ∷ kept) kept)
+unfolding all-have
+all-have-more piece [] true kept e h = cc
+all-have-more piece (slot ∷ later) true kept e h = h
+all-have-more piece way false kept e h = h
+
+all-have-kept : (piece : Piece) (ways : List (List slots.Slot)) → all-have piece (filter (go_on_with piece) ways)
+unfolding all-have
+all-have-kept piece [] = tt
+all-have-kept piece (way ∷ ways) = all-have-more piece way (go_on_with piece way) (filter (go_on_with piece) ways) refl (all-have-kept piece ways)
+
+none-judged : (names : List (List ℕ)) (end : ℕ) (piece : Piece) (rest : List Piece) (going : List (List slots.Slot)) → all-have piece going → None ≡ heads going → first_of (judged names end piece rest going) ≡ Some (fault_at BadOperand piece)
+unfolding judged all-have first_of earlier
+none-judged names end piece rest [] h e = refl
+none-judged names end piece rest ([] ∷ more) h e = absurd h
+none-judged names end piece rest ((slot ∷ later) ∷ more) h e = cc
+
+some-judged : (names : List (List ℕ)) (end : ℕ) (piece : Piece) (rest : List Piece) (slot : slots.Slot) (going behind : List (List slots.Slot)) → all-have piece going → Some slot ≡ heads going → behind ≡ map (drop 1) going → first_of (judged names end piece rest going) ≡ first (first_of (token_faults names slot piece)) (first_of (operand_faults names end behind rest))
+unfolding judged all-have
+some-judged names end piece rest slot [] behind h e later = cc
+some-judged names end piece rest slot ([] ∷ more) behind h e later = absurd h
+some-judged names end piece rest slot ((own ∷ others) ∷ more) behind h e later =
+    let same : slot ≡ own = cc in
+    rw same (rw later (first_of-append (token_faults names own piece) (operand_faults names end (others ∷ map (drop 1) more) rest)))
+
+pub bad-operand : (names : List (List ℕ)) (end : ℕ) (piece : Piece) (rest : List Piece) (ways later : List Way) → Advances piece rest ways None later → first_of (operand_faults names end (map (way_slots (commas_in (piece ∷ rest))) ways) (piece ∷ rest)) ≡ Some (fault_at BadOperand piece)
+bad-operand names end piece rest ways later step =
+    ap first_of (faults-judged names end piece rest (map (way_slots (commas_in (piece ∷ rest))) ways))
+    ∙ none-judged names end piece rest (going_on piece rest ways) (all-have-kept piece (map (way_slots (commas_in (piece ∷ rest))) ways)) step.taken
+
+pub next-operand : (names : List (List ℕ)) (end : ℕ) (piece : Piece) (rest : List Piece) (ways later : List Way) (slot : Slot) → Advances piece rest ways (Some slot) later → first_of (operand_faults names end (map (way_slots (commas_in (piece ∷ rest))) ways) (piece ∷ rest)) ≡ first (first_of (token_faults names (slot_of slot) piece)) (first_of (operand_faults names end (map (way_slots (commas_in rest)) later) rest))
+next-operand names end piece rest ways later slot step =
+    ap first_of (faults-judged names end piece rest (map (way_slots (commas_in (piece ∷ rest))) ways))
+    ∙ some-judged names end piece rest (slot_of slot) (going_on piece rest ways) (map (way_slots (commas_in rest)) later) (all-have-kept piece (map (way_slots (commas_in (piece ∷ rest))) ways)) step.taken step.behind
