@@ -1,7 +1,7 @@
 -- One more way that goes on with a token, or doesn't.
-use Rattle.std.proofs.Common.{◌≡◌, ℕ, Bool, true, false, cond, List, [], ◌∷◌, ◌++◌, map, filter, drop, Option, Some, None, option_map, refl, sym, ap, ◌∙◌, append-nil}
+use Rattle.std.proofs.Common.{◌≡◌, ℕ, ◌+◌, ◌<◌, Bool, true, false, cond, List, [], ◌∷◌, ◌++◌, map, filter, drop, take, length, get_or, Option, Some, None, option_map, refl, sym, ap, ◌∙◌, append-nil}
 use Rattle.std.specs.Option.{option_or}
-use Rattle.std.proofs.lemmas.List.{map-append}
+use Rattle.std.proofs.lemmas.List.{map-append, take_more}
 use Rattle.std.proofs.lemmas.List.Elements.{filter-append}
 use Rattle.vx_language.specs.Lexemes.{Piece}
 use Rattle.vx_language.specs.Slots as slots
@@ -54,3 +54,6 @@ advance-taken piece rest going slot ways new way first later step pushed before 
       taken = or-mapped slot first ∙ ap (λ (o : Option slots.Slot). option_or o (Some (slot_of first))) before.taken ∙ sym (heads-behind (going_on piece rest going) (slot_of first) (way_slots (commas_in rest) later)) ∙ ap heads more;
       behind = ap (map (way_slots (commas_in rest))) pushed ∙ map-append (way_slots (commas_in rest)) ways (later ∷ []) ∙ ap (λ (l : List (List slots.Slot)). l ++ way_slots (commas_in rest) later ∷ []) before.behind ∙ sym (map-append (drop 1) (going_on piece rest going) ((slot_of first ∷ way_slots (commas_in rest) later) ∷ [])) ∙ ap (map (drop 1)) more;
     }
+
+pub advanced-more : (piece : Piece) (rest : List Piece) (going : List Way) (i : ℕ) (d : Way) (slot : Option Slot) (ways : List Way) → i < length going → Advances piece rest (take i going ++ get_or going i d ∷ []) slot ways → Advances piece rest (take (i + 1) going) slot ways
+advanced-more piece rest going i d slot ways within step = rw (take_more going i d within) step

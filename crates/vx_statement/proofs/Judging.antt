@@ -1,19 +1,24 @@
 -- The faults of operands, token by token.
-use Rattle.std.proofs.Common.{◌≡◌, ℕ, Bool, true, false, cond, List, [], ◌∷◌, ◌++◌, map, filter, drop, Option, Some, None, option_map, refl, sym, ap, ◌∙◌}
+use Rattle.std.proofs.Common.{◌≡◌, ℕ, suc, ◌+◌, ◌<◌, ◌≤◌, length, get_or, arith, Bool, true, false, cond, ◌||◌, List, [], ◌∷◌, ◌++◌, map, filter, drop, Option, Some, None, option_map, refl, sym, ap, ◌∙◌}
+use Rattle.std.specs.List.{list_any}
+use Rattle.std.proofs.Math.Seq.{drop-cons}
+use Rattle.std.proofs.lemmas.List.{drop_all}
 use Rattle.vx_language.specs.Faults.{fault_at, first_of, earlier}
 use Rattle.vx_language.specs.Lexemes.{Piece}
 use Rattle.vx_language.specs.Slots.{token_faults}
 use Rattle.vx_language.specs.Slots as slots
-use Rattle.vx_language.specs.Statements.{go_on_with, first_slot_faults, operand_faults}
+use Rattle.vx_language.specs.Statements.{go_on_with, first_slot_faults, operand_faults, is_done, ends_too_early}
 use Rattle.vx_language.specs.declared.fault.Fault.{Fault}
 use Rattle.vx_language.specs.declared.fault.FaultKind.TheVariants.{BadOperand}
 use Rattle.vx_statement.specs.Advances.{Advances, heads, going_on}
 use Rattle.vx_statement.specs.Firsts.{first}
+use Rattle.vx_statement.specs.Lexemes.{piece_of, pieces_of}
 use Rattle.vx_statement.specs.Slots.{slot_of}
 use Rattle.vx_statement.specs.Ways.{commas_in, way_slots}
+use Rattle.vx_statement.specs.declared.lexeme.Lexeme.{Lexeme}
 use Rattle.vx_statement.specs.declared.slot.Slot.{Slot}
 use Rattle.vx_statement.specs.declared.way.Way.{Way}
-use Rattle.vx_statement.proofs.Firsts.{first_of-append}
+use Rattle.vx_statement.proofs.Firsts.{first_of-append, first-twice}
 
 -- the faults from a token on, where these ways go on with it
 judged : List (List ℕ) → ℕ → Piece → List Piece → List (List slots.Slot) → List Fault
@@ -67,3 +72,54 @@ pub next-operand : (names : List (List ℕ)) (end : ℕ) (piece : Piece) (rest :
 next-operand names end piece rest ways later slot step =
     ap first_of (faults-judged names end piece rest (map (way_slots (commas_in (piece ∷ rest))) ways))
     ∙ some-judged names end piece rest (slot_of slot) (going_on piece rest ways) (map (way_slots (commas_in rest)) later) (all-have-kept piece (map (way_slots (commas_in (piece ∷ rest))) ways)) step.taken step.behind
+
+any-mapped : {A B : Type 0} (f : A → B) (p : B → Bool) (xs : List A) → list_any p (map f xs) ≡ list_any (λ x. p (f x)) xs
+any-mapped f p [] = refl
+any-mapped f p (x ∷ xs) = ap (λ (b : Bool). p (f x) || b) (any-mapped f p xs)
+
+by-end : (end : ℕ) (done : Bool) → cond done None (Some (ends_too_early end)) ≡ first_of (cond done [] (ends_too_early end ∷ []))
+unfolding first_of earlier
+by-end end true = refl
+by-end end false = refl
+
+-- the fault of the line's end
+pub end-judged : (names : List (List ℕ)) (end : ℕ) (ways : List Way) (done : Bool) → list_any (λ (w : Way). is_done (way_slots 0 w)) ways ≡ done → cond done None (Some (ends_too_early end)) ≡ first_of (operand_faults names end (map (way_slots 0) ways) [])
+unfolding operand_faults first_of earlier
+end-judged names end ways done h =
+    let e : list_any is_done (map (way_slots 0) ways) ≡ done = any-mapped (way_slots 0) is_done ways ∙ h in
+    rw e (by-end end done)
+
+cut-off : (tokens : List Lexeme) (i : ℕ) (token : Lexeme) → i < length tokens → token ≡ get_or tokens i token → pieces_of (drop i tokens) ≡ piece_of token ∷ pieces_of (drop (i + 1) tokens)
+cut-off tokens i token within is =
+    ap pieces_of (drop-cons tokens i token within)
+    ∙ ap (λ (t : Lexeme). piece_of t ∷ pieces_of (drop (suc i) tokens)) (sym is)
+    ∙ ap (λ (n : ℕ). piece_of token ∷ pieces_of (drop n tokens)) (let e : suc i ≡ i + 1 = omega arith in e)
+
+-- a token that a slot takes
+pub token-judged : (names : List (List ℕ)) (end : ℕ) (tokens : List Lexeme) (i : ℕ) (token : Lexeme) (ways all later : List Way) (slot : Slot) (found fault new : Option Fault) → i < length tokens → token ≡ get_or tokens i token → ((rest : List Piece) → Advances (piece_of token) rest ways (Some slot) later) → new ≡ first found fault → fault ≡ first_of (token_faults names (slot_of slot) (piece_of token)) → first found (first_of (operand_faults names end (map (way_slots (commas_in (pieces_of (drop i tokens)))) ways) (pieces_of (drop i tokens)))) ≡ first_of (operand_faults names end (map (way_slots (commas_in (pieces_of tokens))) all) (pieces_of tokens)) → first new (first_of (operand_faults names end (map (way_slots (commas_in (pieces_of (drop (i + 1) tokens)))) later) (pieces_of (drop (i + 1) tokens)))) ≡ first_of (operand_faults names end (map (way_slots (commas_in (pieces_of tokens))) all) (pieces_of tokens))
+token-judged names end tokens i token ways all later slot found fault new within is step is_new is_fault before =
+    let rest = pieces_of (drop (i + 1) tokens) in
+    let behind = first_of (operand_faults names end (map (way_slots (commas_in rest)) later) rest) in
+    let here = next-operand names end (piece_of token) rest ways later slot (step rest) in
+    ap (λ (o : Option Fault). first o behind) (is_new ∙ ap (first found) is_fault)
+    ∙ first-twice found (first_of (token_faults names (slot_of slot) (piece_of token))) behind
+    ∙ ap (first found) (sym here)
+    ∙ ap (λ (l : List Piece). first found (first_of (operand_faults names end (map (way_slots (commas_in l)) ways) l))) (sym (cut-off tokens i token within is))
+    ∙ before
+
+-- one that none takes
+pub token-refused : (names : List (List ℕ)) (end : ℕ) (tokens : List Lexeme) (i : ℕ) (token : Lexeme) (ways all later : List Way) (found new : Option Fault) → i < length tokens → token ≡ get_or tokens i token → ((rest : List Piece) → Advances (piece_of token) rest ways None later) → new ≡ first found (Some (fault_at BadOperand (piece_of token))) → first found (first_of (operand_faults names end (map (way_slots (commas_in (pieces_of (drop i tokens)))) ways) (pieces_of (drop i tokens)))) ≡ first_of (operand_faults names end (map (way_slots (commas_in (pieces_of tokens))) all) (pieces_of tokens)) → new ≡ first_of (operand_faults names end (map (way_slots (commas_in (pieces_of tokens))) all) (pieces_of tokens))
+token-refused names end tokens i token ways all later found new within is step is_new before =
+    let rest = pieces_of (drop (i + 1) tokens) in
+    is_new
+    ∙ ap (first found) (sym (bad-operand names end (piece_of token) rest ways later (step rest)))
+    ∙ ap (λ (l : List Piece). first found (first_of (operand_faults names end (map (way_slots (commas_in l)) ways) l))) (sym (cut-off tokens i token within is))
+    ∙ before
+
+-- the line's end
+pub line-judged : (names : List (List ℕ)) (end : ℕ) (tokens : List Lexeme) (i : ℕ) (ways all : List Way) (found fault new : Option Fault) → length tokens ≤ i → new ≡ first found fault → fault ≡ first_of (operand_faults names end (map (way_slots 0) ways) []) → first found (first_of (operand_faults names end (map (way_slots (commas_in (pieces_of (drop i tokens)))) ways) (pieces_of (drop i tokens)))) ≡ first_of (operand_faults names end (map (way_slots (commas_in (pieces_of tokens))) all) (pieces_of tokens)) → new ≡ first_of (operand_faults names end (map (way_slots (commas_in (pieces_of tokens))) all) (pieces_of tokens))
+line-judged names end tokens i ways all found fault new past is_new is_fault before =
+    is_new
+    ∙ ap (first found) is_fault
+    ∙ ap (λ (l : List Piece). first found (first_of (operand_faults names end (map (way_slots (commas_in l)) ways) l))) (sym (ap pieces_of (drop_all i tokens past)))
+    ∙ before
