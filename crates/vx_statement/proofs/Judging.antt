@@ -73,7 +73,7 @@ next-operand names end piece rest ways later slot step =
     ap first_of (faults-judged names end piece rest (map (way_slots (commas_in (piece ∷ rest))) ways))
     ∙ some-judged names end piece rest (slot_of slot) (going_on piece rest ways) (map (way_slots (commas_in rest)) later) (all-have-kept piece (map (way_slots (commas_in (piece ∷ rest))) ways)) step.taken step.behind
 
-any-mapped : {A B : Type 0} (f : A → B) (p : B → Bool) (xs : List A) → list_any p (map f xs) ≡ list_any (λ x. p (f x)) xs
+pub any-mapped : {A B : Type 0} (f : A → B) (p : B → Bool) (xs : List A) → list_any p (map f xs) ≡ list_any (λ x. p (f x)) xs
 any-mapped f p [] = refl
 any-mapped f p (x ∷ xs) = ap (λ (b : Bool). p (f x) || b) (any-mapped f p xs)
 
@@ -89,7 +89,7 @@ end-judged names end ways done h =
     let e : list_any is_done (map (way_slots 0) ways) ≡ done = any-mapped (way_slots 0) is_done ways ∙ h in
     rw e (by-end end done)
 
-cut-off : (tokens : List Lexeme) (i : ℕ) (token : Lexeme) → i < length tokens → token ≡ get_or tokens i token → pieces_of (drop i tokens) ≡ piece_of token ∷ pieces_of (drop (i + 1) tokens)
+pub cut-off : (tokens : List Lexeme) (i : ℕ) (token : Lexeme) → i < length tokens → token ≡ get_or tokens i token → pieces_of (drop i tokens) ≡ piece_of token ∷ pieces_of (drop (i + 1) tokens)
 cut-off tokens i token within is =
     ap pieces_of (drop-cons tokens i token within)
     ∙ ap (λ (t : Lexeme). piece_of t ∷ pieces_of (drop (suc i) tokens)) (sym is)

@@ -6,3 +6,4 @@ pub mod Pushed
 pub mod Firsts
 pub mod Advancing
 pub mod Judging
+pub mod Naming

@@ -6,4 +6,5 @@ pub mod Labels
 pub mod Lexemes
 pub mod Ranges
 pub mod Slots
+pub mod Statements
 pub mod Ways

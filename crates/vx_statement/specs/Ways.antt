@@ -54,6 +54,11 @@ action_of action.Aligns = language.Aligns
 action_of (action.Puts expansion instr) = language.Puts (record { expansion = expansion_of expansion; instr = instr; target = None })
 action_of action.Rests = language.Rests
 
+-- an action gives instructions
+abbrev pub gives_code : Action → Bool
+gives_code (action.Puts expansion instr) = true
+gives_code other = false
+
 -- a form of this name, where so many commas stand on the line
 abbrev pub form_of : List ℕ → ℕ → Form → language.Form
 form_of name commas form = record { name = name; slots = way_slots commas form.way; action = action_of form.action }

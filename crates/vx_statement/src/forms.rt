@@ -2,6 +2,7 @@ ghost use Rattle.std.specs.Prelude.{◌≡◌, ℕ, List, [], ◌∷◌, ◌++�
 ghost use Rattle.vx_language.specs.Forms.{directives, pseudo_statements, instr_forms, forms_of, form, alone};
 ghost use Rattle.vx_language.specs.Forms as language;
 ghost use Rattle.vx_language.specs.Names.{instr_named};
+ghost use Rattle.vx_statement.specs.Statements.{AreForms};
 ghost use Rattle.vx_statement.specs.Ways.{form_of, named_form, slots_of};
 
 use crate::form::{Action, Expansion, Form, NamedForm, listed_forms};
@@ -16,7 +17,7 @@ use vx_decode::Instr;
 /// All forms of a name; none where the name is unknown.
 #[tactic(auto, unfolding(vx_language::specs::Forms::forms_of))]
 pub fn forms_of(alloc: Global, name: &[u8]) -> Result<SmallVec<Form, 4>, AllocError>
-    ensures { IfOk result (λ forms. (commas : ℕ) → map (form_of name.now commas) forms.items ≡ forms_of commas name.now) }
+    ensures { IfOk result (λ forms. AreForms name.now forms.items) }
 {
     let mut forms = SmallVec::new(alloc);
     push_listed(&mut forms, name)?;

@@ -14,6 +14,7 @@ mod names;
 mod operands;
 mod range;
 mod slot;
+mod statement;
 mod way;
 mod ways;
 
@@ -26,4 +27,5 @@ pub use names::{control_number, instr_named, register_number};
 pub use operands::operand_fault;
 pub use range::{Range, Reach};
 pub use slot::Slot;
+pub use statement::{are_code, form_for, named_fault};
 pub use way::Way;
