@@ -1,5 +1,5 @@
 -- The faults of a source: which comes first. This project's own.
-use Rattle.std.specs.Prelude.{ℕ, Bool, ◌&&◌, ◌||◌, ◌==◌, nat_lt, List, [], ◌∷◌, Option, Some, None, if◌then◌else◌}
+use Rattle.std.specs.Prelude.{◌≡◌, ℕ, Bool, ◌&&◌, ◌||◌, ◌==◌, nat_lt, List, [], ◌∷◌, ◌++◌, Option, Some, None, if◌then◌else◌}
 use Rattle.vx_language.specs.Lexemes.{Piece, span_of}
 use Rattle.vx_language.specs.declared.fault.Fault.{Fault}
 use Rattle.vx_language.specs.declared.fault.FaultKind.{FaultKind}
@@ -30,7 +30,16 @@ unfoldable pub earlier : Fault → Option Fault → Fault
 earlier one None = one
 earlier one (Some other) = if comes_before other one then other else one
 
+-- the first of two, where there are some
+abbrev pub earliest : Option Fault → Option Fault → Option Fault
+earliest None other = other
+earliest (Some one) other = Some (earlier one other)
+
 -- the first of faults
 unfoldable pub first_of : List Fault → Option Fault
 first_of [] = None
 first_of (fault ∷ faults) = Some (earlier fault (first_of faults))
+
+-- the first of all of them is the first of the firsts of parts, however they are parted
+abbrev pub FirstsJoin : Type 0
+FirstsJoin = (faults more : List Fault) → first_of (faults ++ more) ≡ earliest (first_of faults) (first_of more)

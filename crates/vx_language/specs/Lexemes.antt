@@ -82,6 +82,10 @@ pieces_behind zero start (byte ∷ rest) =
 abbrev pub pieces : List ℕ → List Piece
 pieces source = pieces_behind 0 0 source
 
+-- those from an offset on at which one begins
+abbrev pub pieces_from : List ℕ → ℕ → List Piece
+pieces_from source from = pieces_behind 0 from (drop from source)
+
 -- Tokens.
 
 -- what token a piece of this kind is, good or bad, where it is one

@@ -11,5 +11,5 @@ mod laws;
 mod token;
 
 pub use fault::{Fault, FaultKind};
-pub use laws::examples_hold;
+pub use laws::{examples_hold, firsts_join};
 pub use token::{Beginning, PieceKind, Span, Token, TokenKind};

@@ -1,13 +1,24 @@
-// A library with one function.
+//! The lexer of the assembler's language: the tokens of a source, or its first lexical fault.
+//!
+//! It stands on `vx_language`, whose definitions say what the pieces of a source are, and on the kit's `thiserror`. To the
+//! crates above it gives `tokens`, and what an assembler needs that reads on behind a fault: `piece_at`, one piece after the
+//! other without memory, `first_bad_byte`, and `number_of` and `push_text`, what a number and a text mean.
 #![tactic(auto)]
 
-ghost use Rattle.std.specs.Prelude.{◌≡◌};
-ghost use Rattle.vx_lex.specs.Echo.{echo_of};
+mod byte;
+mod fault;
+mod lexer;
+mod list;
+mod numeral;
+mod piece;
+mod quoted;
+#[cfg(test)]
+mod tests;
 
-// The `ensures` clause is the contract: what `echo` returns is `echo_of` of its argument, a definition
-// in `specs/Echo.antt`, which a caller's clause can cite too.
-pub fn echo(x: usize) -> usize
-    ensures { result ≡ echo_of x }
-{
-    x
-}
+pub use byte::first_bad_byte;
+pub use fault::LexFault;
+pub use lexer::tokens;
+pub use list::Tokens;
+pub use numeral::number_of;
+pub use piece::{Piece, piece_at};
+pub use quoted::push_text;

@@ -1,0 +1,5 @@
+pub mod Digits
+pub mod First
+pub mod Pieces
+pub mod Quotes
+pub mod Steps
