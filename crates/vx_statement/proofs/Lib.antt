@@ -7,3 +7,4 @@ pub mod Firsts
 pub mod Advancing
 pub mod Judging
 pub mod Naming
+pub mod Owned

@@ -35,7 +35,7 @@ by-forms names end name operands forms =
       | first ∷ more ↦ operand_faults names end (map (λ (f : language.Form). f.slots) (first ∷ more)) operands
     ]
 
-forms-are : (name : Piece) (operands : List Piece) (forms : List Form) → AreForms name.text forms → map (form_of name.text (commas_in operands)) forms ≡ forms_for name operands
+pub forms-are : (name : Piece) (operands : List Piece) (forms : List Form) → AreForms name.text forms → map (form_of name.text (commas_in operands)) forms ≡ forms_for name operands
 unfolding forms_for
 forms-are name operands forms all = all (commas_in operands)
 

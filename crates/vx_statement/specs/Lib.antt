@@ -4,6 +4,7 @@ pub mod Firsts
 pub mod Knowing
 pub mod Labels
 pub mod Lexemes
+pub mod Owning
 pub mod Ranges
 pub mod Slots
 pub mod Statements

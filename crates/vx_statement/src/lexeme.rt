@@ -16,6 +16,18 @@ pub struct Lexeme<'a> {
     ghost whole: { start + length text.now ≡ end },
 }
 
+impl<'a> Default for Lexeme<'a> {
+    /// No bytes, at the beginning.
+    fn default() -> Lexeme<'a> {
+        Lexeme {
+            kind: PieceKind::Blank,
+            start: 0,
+            end: 0,
+            text: &[],
+        }
+    }
+}
+
 impl Lexeme<'_> {
     ghost use Rattle.vx_language.specs.Faults.{fault_at};
     ghost use Rattle.vx_language.specs.Lexemes.{is_a};

@@ -1,0 +1,11 @@
+//! The assembler: the program of a source, or its first fault.
+//!
+//! It stands on `vx_language`, whose definitions say which faults a source has and which program one without a fault is, on
+//! `vx_lex`, which cuts a source into pieces, and on `vx_statement`, which judges a statement. To the crate above it gives lines.
+#![tactic(auto)]
+
+mod line;
+mod lexical;
+
+pub use lexical::bad_byte_fault;
+pub use line::{Line, read_line};
