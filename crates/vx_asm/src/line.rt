@@ -1,7 +1,8 @@
-ghost use Rattle.std.specs.Prelude.{◌≡◌, ◌<◌, ◌≤◌, ◌^◌, ℕ, IfOk, IfSome, length};
-ghost use Rattle.vx_language.specs.Lexemes.{token_kind};
+ghost use Rattle.std.specs.Prelude.{◌≡◌, ◌≤◌, [], ◌∷◌, ◌++◌, IfOk, OnOk, length, filter, is_some};
+ghost use Rattle.vx_language.specs.Lexemes.{token_kind, is_kind, is_token};
+ghost use Rattle.vx_language.specs.declared.token.TokenKind.TheVariants as token;
 ghost use Rattle.vx_lex.specs.Pieces.{piece_in};
-ghost use Rattle.vx_statement.specs.Lexemes.{piece_of};
+ghost use Rattle.vx_statement.specs.Lexemes.{piece_of, pieces_of};
 ghost use Rattle.vx_asm.specs.Reading.{IsLineAt};
 
 use smallvec::SmallVec;
@@ -21,15 +22,26 @@ pub struct Line<'a> {
     pub next: Option<usize>,
 }
 
-/// What token a piece is, good or bad, where it is one.
-fn token_kind(kind: PieceKind) -> Option<TokenKind>
-    ensures { result ≡ token_kind kind }
+/// Whether a piece is a line's end.
+#[tactic(auto, unfolding(vx_language::specs::Lexemes::is_a))]
+fn ends_line(kind: PieceKind) -> bool
+    ensures { result ≡ is_kind token.Newline (token_kind kind) }
 {
     match kind {
-        PieceKind::Good(kind) => Some(kind),
-        PieceKind::Bad(kind) => Some(kind),
-        PieceKind::Stray => None,
-        PieceKind::Blank => None,
+        PieceKind::Good(kind) => kind == TokenKind::Newline,
+        PieceKind::Bad(kind) => kind == TokenKind::Newline,
+        PieceKind::Stray => false,
+        PieceKind::Blank => false,
+    }
+}
+
+/// Whether a piece is a token, good or bad.
+fn is_token(kind: PieceKind) -> bool
+    ensures { result ≡ is_some (token_kind kind) }
+{
+    match kind {
+        PieceKind::Good(_) | PieceKind::Bad(_) => true,
+        PieceKind::Stray | PieceKind::Blank => false,
     }
 }
 
@@ -47,6 +59,22 @@ fn lexeme_of<'a>(source: &'a [u8], piece: Piece) -> Lexeme<'a>
     }
 }
 
+/// Appends a piece where it is a token.
+fn push_token<'a>(
+    tokens: &mut SmallVec<Lexeme<'a>, 16>,
+    source: &'a [u8],
+    piece: Piece,
+) -> Result<(), AllocError>
+    requires order { piece.span.start ≤ piece.span.end }
+    requires within { piece.span.end ≤ length source.now }
+    ensures { OnOk result (pieces_of tokens.new.items ≡ pieces_of tokens.old.items ++ filter is_token (piece_in source.entry.now piece ∷ [])) }
+{
+    if is_token(piece.kind) {
+        tokens.push(lexeme_of(source, piece))?;
+    }
+    Ok(())
+}
+
 /// The line of a source that begins at an offset where a piece begins. `Err` where memory is wanting.
 pub fn read_line<'a>(alloc: Global, source: &'a [u8], from: usize) -> Result<Line<'a>, AllocError>
     ensures { IfOk result (λ line. IsLineAt source.entry.now from line) }
@@ -54,17 +82,14 @@ pub fn read_line<'a>(alloc: Global, source: &'a [u8], from: usize) -> Result<Lin
     let mut tokens = SmallVec::new(alloc);
     let mut at = from;
     while let Some(piece) = piece_at(source, at) {
-        match token_kind(piece.kind) {
-            None => {}
-            Some(TokenKind::Newline) => {
-                return Ok(Line {
-                    tokens,
-                    end: piece.span.start,
-                    next: Some(piece.span.end as usize),
-                });
-            }
-            Some(_) => tokens.push(lexeme_of(source, piece))?,
+        if ends_line(piece.kind) {
+            return Ok(Line {
+                tokens,
+                end: piece.span.start,
+                next: Some(piece.span.end as usize),
+            });
         }
+        push_token(&mut tokens, source, piece)?;
         at = piece.span.end as usize;
     }
     Ok(Line {

@@ -41,8 +41,8 @@ unfolding earlier
 earlier-twice a b c =
     chosen a b c (comes_before b a) refl
     ∙ picks a b c (comes_before b a) (comes_before c b) (comes_before c a)
-        (λ p q. before-is c a ∙ before-all a.span.start (rank a.kind) b.span.start (rank b.kind) c.span.start (rank c.kind) (sym (before-is b a) ∙ p) (sym (before-is c b) ∙ q))
-        (λ p q. before-is c a ∙ before-none a.span.start (rank a.kind) b.span.start (rank b.kind) c.span.start (rank c.kind) (sym (before-is b a) ∙ p) (sym (before-is c b) ∙ q))
+    (λ p q. before-is c a ∙ before-all a.span.start (rank a.kind) b.span.start (rank b.kind) c.span.start (rank c.kind) (sym (before-is b a) ∙ p) (sym (before-is c b) ∙ q))
+    (λ p q. before-is c a ∙ before-none a.span.start (rank a.kind) b.span.start (rank b.kind) c.span.start (rank c.kind) (sym (before-is b a) ∙ p) (sym (before-is c b) ∙ q))
     ∙ sym (chosen-late a b c (comes_before c b) refl)
 
 pub first-twice : (a b c : Option Fault) → first (first a b) c ≡ first a (first b c)

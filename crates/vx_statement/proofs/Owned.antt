@@ -93,8 +93,8 @@ pub own-joined : (names : List (List ℕ)) (place : Place) (end : ℕ) (piece : 
 unfolding placement_faults
 own-joined names place end piece operands by_itself by_tokens by_place e f g =
     rw e (rw f (rw g (sym (
-      first_of-append (statement_faults names end (piece ∷ operands) ++ bad_pieces (piece ∷ operands)) (name_placement_faults place piece operands)
-      ∙ ap (λ (o : Option Fault). first o (first_of (name_placement_faults place piece operands))) (first_of-append (statement_faults names end (piece ∷ operands)) (bad_pieces (piece ∷ operands)))))))
+    first_of-append (statement_faults names end (piece ∷ operands) ++ bad_pieces (piece ∷ operands)) (name_placement_faults place piece operands)
+    ∙ ap (λ (o : Option Fault). first o (first_of (name_placement_faults place piece operands))) (first_of-append (statement_faults names end (piece ∷ operands)) (bad_pieces (piece ∷ operands)))))))
 
 pub own-none : (names : List (List ℕ)) (place : Place) (end : ℕ) → None ≡ first_of (own_of names place end [])
 unfolding statement_faults bad_pieces placement_faults first_of

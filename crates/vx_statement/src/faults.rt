@@ -36,13 +36,7 @@ pub fn earlier(one: Fault, other: Option<Fault>) -> Fault
 {
     match other {
         None => one,
-        Some(other) => {
-            if comes_before(other, one) {
-                other
-            } else {
-                one
-            }
-        }
+        Some(other) => { if comes_before(other, one) { other } else { one } }
     }
 }
 

@@ -75,13 +75,41 @@ pub struct NamedForm {
     pub form: Form,
 }
 
-const BYTES: Range = Range { least: -128, greatest: 255 };
-const HALVES: Range = Range { least: -32_768, greatest: 65_535 };
-const WORDS: Range = Range { least: -2_147_483_648, greatest: 4_294_967_295 };
-const DOUBLE_WORDS: Range = Range { least: i64::MIN, greatest: u64::MAX };
-const COUNTS: Range = Range { least: 0, greatest: u64::MAX };
-const POWERS: Range = Range { least: 0, greatest: 12 };
-const LOADED: Range = Range { least: -2_147_483_648, greatest: 2_147_483_647 };
+const BYTES: Range = Range {
+    least: -128,
+    greatest: 255,
+};
+
+const HALVES: Range = Range {
+    least: -32_768,
+    greatest: 65_535,
+};
+
+const WORDS: Range = Range {
+    least: -2_147_483_648,
+    greatest: 4_294_967_295,
+};
+
+const DOUBLE_WORDS: Range = Range {
+    least: i64::MIN,
+    greatest: u64::MAX,
+};
+
+const COUNTS: Range = Range {
+    least: 0,
+    greatest: u64::MAX,
+};
+
+const POWERS: Range = Range {
+    least: 0,
+    greatest: 12,
+};
+
+const LOADED: Range = Range {
+    least: -2_147_483_648,
+    greatest: 2_147_483_647,
+};
+
 const COMMA: Slot = Slot::Mark(b',');
 
 /// An instruction with these operands.
@@ -116,17 +144,61 @@ static LISTED: [NamedForm; 21] = [
     form!(".zero", [Slot::Datum(COUNTS)], Action::PutsZeros),
     form!(".align", [Slot::Datum(POWERS)], Action::Aligns),
     form!(".globl", [Slot::Symbol], Action::Rests),
-    form!("nop", [], Action::Puts(Expansion::Alone, instr!(Addi, 0, 0))),
-    form!("mv", [Slot::Rd, COMMA, Slot::Rs1], Action::Puts(Expansion::Alone, instr!(Addi, 0, 0))),
-    form!("j", [Slot::Offset(Reach::Jump)], Action::Puts(Expansion::Alone, instr!(Jal, 0, 0))),
-    form!("jr", [Slot::Rs1], Action::Puts(Expansion::Alone, instr!(Jalr, 0, 0))),
-    form!("ret", [], Action::Puts(Expansion::Alone, instr!(Jalr, 1, 0))),
-    form!("beqz", [Slot::Rs1, COMMA, Slot::Offset(Reach::Branch)], Action::Puts(Expansion::Alone, instr!(Beq, 0, 0))),
-    form!("bnez", [Slot::Rs1, COMMA, Slot::Offset(Reach::Branch)], Action::Puts(Expansion::Alone, instr!(Bne, 0, 0))),
-    form!("csrr", [Slot::Rd, COMMA, Slot::ControlRegister], Action::Puts(Expansion::Alone, instr!(Csrrs, 0, 0))),
-    form!("fence", [], Action::Puts(Expansion::Alone, instr!(Fence, 0, 255))),
-    form!("li", [Slot::Rd, COMMA, Slot::Immediate(LOADED)], Action::Puts(Expansion::LoadsNumber, instr!(Addi, 0, 0))),
-    form!("la", [Slot::Rd, COMMA, Slot::Label], Action::Puts(Expansion::LoadsAddress, instr!(Addi, 0, 0))),
+    form!(
+        "nop",
+        [],
+        Action::Puts(Expansion::Alone, instr!(Addi, 0, 0))
+    ),
+    form!(
+        "mv",
+        [Slot::Rd, COMMA, Slot::Rs1],
+        Action::Puts(Expansion::Alone, instr!(Addi, 0, 0))
+    ),
+    form!(
+        "j",
+        [Slot::Offset(Reach::Jump)],
+        Action::Puts(Expansion::Alone, instr!(Jal, 0, 0))
+    ),
+    form!(
+        "jr",
+        [Slot::Rs1],
+        Action::Puts(Expansion::Alone, instr!(Jalr, 0, 0))
+    ),
+    form!(
+        "ret",
+        [],
+        Action::Puts(Expansion::Alone, instr!(Jalr, 1, 0))
+    ),
+    form!(
+        "beqz",
+        [Slot::Rs1, COMMA, Slot::Offset(Reach::Branch)],
+        Action::Puts(Expansion::Alone, instr!(Beq, 0, 0))
+    ),
+    form!(
+        "bnez",
+        [Slot::Rs1, COMMA, Slot::Offset(Reach::Branch)],
+        Action::Puts(Expansion::Alone, instr!(Bne, 0, 0))
+    ),
+    form!(
+        "csrr",
+        [Slot::Rd, COMMA, Slot::ControlRegister],
+        Action::Puts(Expansion::Alone, instr!(Csrrs, 0, 0))
+    ),
+    form!(
+        "fence",
+        [],
+        Action::Puts(Expansion::Alone, instr!(Fence, 0, 255))
+    ),
+    form!(
+        "li",
+        [Slot::Rd, COMMA, Slot::Immediate(LOADED)],
+        Action::Puts(Expansion::LoadsNumber, instr!(Addi, 0, 0))
+    ),
+    form!(
+        "la",
+        [Slot::Rd, COMMA, Slot::Label],
+        Action::Puts(Expansion::LoadsAddress, instr!(Addi, 0, 0))
+    ),
 ];
 
 /// The directives and the pseudo-statements.

@@ -38,7 +38,11 @@ fn push_listed(forms: &mut SmallVec<Form, 4>, name: &[u8]) -> Result<(), AllocEr
 }
 
 /// Appends a form where it has this name.
-fn push_named(forms: &mut SmallVec<Form, 4>, name: &[u8], named: &NamedForm) -> Result<(), AllocError>
+fn push_named(
+    forms: &mut SmallVec<Form, 4>,
+    name: &[u8],
+    named: &NamedForm,
+) -> Result<(), AllocError>
     ensures { OnOk result ((commas : ℕ) → map (form_of name.now commas) forms.new.items ≡ map (form_of name.now commas) forms.old.items ++ filter (λ (f : language.Form). bytes_eq name.now f.name) (named_form commas named.now ∷ [])) }
 {
     if name == named.name.as_bytes() {
@@ -58,7 +62,11 @@ fn push_instr(forms: &mut SmallVec<Form, 4>, name: &[u8]) -> Result<(), AllocErr
 }
 
 /// Appends the forms of an instruction with these ways to write its operands.
-fn push_ways(forms: &mut SmallVec<Form, 4>, ways: &[&'static [Slot]], instr: Instr) -> Result<(), AllocError>
+fn push_ways(
+    forms: &mut SmallVec<Form, 4>,
+    ways: &[&'static [Slot]],
+    instr: Instr,
+) -> Result<(), AllocError>
     ensures { OnOk result ((name : List ℕ) (commas : ℕ) → map (form_of name commas) forms.new.items ≡ map (form_of name commas) forms.old.items ++ map (λ slots. form name slots (alone instr)) (map slots_of ways.now)) }
 {
     for way in ways {

@@ -61,7 +61,10 @@ impl Lexeme<'_> {
     {
         Fault {
             kind,
-            span: Span { start: self.start, end: self.end },
+            span: Span {
+                start: self.start,
+                end: self.end,
+            },
         }
     }
 }

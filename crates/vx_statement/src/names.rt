@@ -12,8 +12,8 @@ use vx_source::register_names;
 
 static NUMBERED_NAMES: [&str; 32] = [
     "x0", "x1", "x2", "x3", "x4", "x5", "x6", "x7", "x8", "x9", "x10", "x11", "x12", "x13", "x14",
-    "x15", "x16", "x17", "x18", "x19", "x20", "x21", "x22", "x23", "x24", "x25", "x26", "x27", "x28",
-    "x29", "x30", "x31",
+    "x15", "x16", "x17", "x18", "x19", "x20", "x21", "x22", "x23", "x24", "x25", "x26", "x27",
+    "x28", "x29", "x30", "x31",
 ];
 
 /// The names of the integer registers by their numbers.
@@ -62,13 +62,34 @@ struct Control {
 }
 
 static CONTROLS: [Control; 7] = [
-    Control { number: 0x008, name: "vstart" },
-    Control { number: 0x009, name: "vxsat" },
-    Control { number: 0x00a, name: "vxrm" },
-    Control { number: 0x00f, name: "vcsr" },
-    Control { number: 0xc20, name: "vl" },
-    Control { number: 0xc21, name: "vtype" },
-    Control { number: 0xc22, name: "vlenb" },
+    Control {
+        number: 0x008,
+        name: "vstart",
+    },
+    Control {
+        number: 0x009,
+        name: "vxsat",
+    },
+    Control {
+        number: 0x00a,
+        name: "vxrm",
+    },
+    Control {
+        number: 0x00f,
+        name: "vcsr",
+    },
+    Control {
+        number: 0xc20,
+        name: "vl",
+    },
+    Control {
+        number: 0xc21,
+        name: "vtype",
+    },
+    Control {
+        number: 0xc22,
+        name: "vlenb",
+    },
 ];
 
 /// The control registers that have names (RISC-V "V" 1.0, section 3).
@@ -83,7 +104,10 @@ fn controls() -> &'static [Control]
 pub fn control_number(name: &[u8]) -> Option<u16>
     ensures { result ≡ control_number name.now }
 {
-    match controls().iter().find(|control| name == control.name.as_bytes()) {
+    match controls()
+        .iter()
+        .find(|control| name == control.name.as_bytes())
+    {
         Some(control) => Some(control.number),
         None => None,
     }
@@ -93,7 +117,10 @@ pub fn control_number(name: &[u8]) -> Option<u16>
 fn operation_named(name: &[u8]) -> Option<Op>
     ensures { result ≡ find (λ (op : Op). bytes_eq name.now (mnemonic op 0)) operations }
 {
-    match rows().iter().find(|row| name == name_of(row.op, 0).as_bytes()) {
+    match rows()
+        .iter()
+        .find(|row| name == name_of(row.op, 0).as_bytes())
+    {
         Some(row) => Some(row.op),
         None => None,
     }
@@ -114,5 +141,13 @@ pub fn instr_named(name: &[u8]) -> Option<Instr>
 pub fn bare(op: Op) -> Instr
     ensures { result ≡ bare_instr op }
 {
-    Instr { op, rd: 0, rs1: 0, rs2: 0, imm: 0, vm: true, nf: 0 }
+    Instr {
+        op,
+        rd: 0,
+        rs1: 0,
+        rs2: 0,
+        imm: 0,
+        vm: true,
+        nf: 0,
+    }
 }

@@ -20,7 +20,10 @@ use std::alloc::{AllocError, Global};
 use vx_language::{Fault, FaultKind, PieceKind, TokenKind};
 
 /// All forms of a statement's name. `Err` where memory is wanting.
-pub fn statement_forms(alloc: Global, statement: &[Lexeme<'_>]) -> Result<SmallVec<Form, 4>, AllocError>
+pub fn statement_forms(
+    alloc: Global,
+    statement: &[Lexeme<'_>],
+) -> Result<SmallVec<Form, 4>, AllocError>
     ensures { IfOk result (λ forms. AreFormsOf statement.now forms.items) }
 {
     match statement.split_first() {

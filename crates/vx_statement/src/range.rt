@@ -49,8 +49,14 @@ impl Reach {
         ensures { range_of result ≡ signed_range (width_of self) }
     {
         match self {
-            Reach::Branch => Range { least: -4096, greatest: 4095 },
-            Reach::Jump => Range { least: -1_048_576, greatest: 1_048_575 },
+            Reach::Branch => Range {
+                least: -4096,
+                greatest: 4095,
+            },
+            Reach::Jump => Range {
+                least: -1_048_576,
+                greatest: 1_048_575,
+            },
         }
     }
 

@@ -90,5 +90,8 @@ pub fn form_for(name: &Lexeme<'_>, operands: &[Lexeme<'_>], forms: &[Form]) -> O
     requires { AreForms name.now.text.now forms.now }
     ensures { option_map (form_of name.now.text.now (commas_in (pieces_of operands.now))) result ≡ form_for (piece_of name.now) (pieces_of operands.now) }
 {
-    forms.iter().find(|form| takes_all(form.way, operands)).copied()
+    forms
+        .iter()
+        .find(|form| takes_all(form.way, operands))
+        .copied()
 }

@@ -8,26 +8,32 @@ use crate::slot::Slot;
 use vx_rows::Shape;
 
 const COMMA: Slot = Slot::Mark(b',');
+
 const NUMBER: Slot = Slot::Immediate(Range {
     least: -2048,
     greatest: 2047,
 });
+
 const AMOUNT: Slot = Slot::Immediate(Range {
     least: 0,
     greatest: 63,
 });
+
 const WORD_AMOUNT: Slot = Slot::Immediate(Range {
     least: 0,
     greatest: 31,
 });
+
 const UPPER: Slot = Slot::Immediate(Range {
     least: 0,
     greatest: 1_048_575,
 });
+
 const ORDER: Slot = Slot::Immediate(Range {
     least: 0,
     greatest: 4095,
 });
+
 const SOURCE: Slot = Slot::SourceField(Range {
     least: 0,
     greatest: 31,
