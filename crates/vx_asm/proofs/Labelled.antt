@@ -1,6 +1,6 @@
 -- Labels before a statement.
-use Rattle.std.proofs.Common.{◌≡◌, ℕ, suc, ◌+◌, ◌-◌, ◌<◌, ◌≤◌, length, take, get_or, arith, Bool, true, false, cond, List, [], ◌∷◌, map, drop, refl, sym, ap, ◌∙◌, length-drop}
-use Rattle.std.proofs.lemmas.List.{drop-drop, take_all}
+use Rattle.std.proofs.Common.{◌≡◌, ℕ, suc, ◌+◌, ◌-◌, ◌<◌, ◌≤◌, length, take, get_or, arith, Bool, true, false, cond, List, [], ◌∷◌, map, drop, refl, sym, ap, ◌∙◌, length-drop, add-zero}
+use Rattle.std.proofs.lemmas.List.{drop-drop, take_all, get_or-drop}
 use Rattle.vx_language.specs.Lexemes.{Piece}
 use Rattle.vx_language.specs.Lines.{is_label, labels_before, behind_labels}
 use Rattle.vx_statement.specs.Lexemes.{piece_of, pieces_of}
@@ -35,3 +35,13 @@ label-within tokens at begins within =
 pub label-passed : (tokens : List Lexeme) (at : ℕ) → BeginWithLabel (take (length tokens - at) (drop at tokens)) true → behind_labels (pieces_of (drop at tokens)) ≡ behind_labels (pieces_of tokens) → behind_labels (pieces_of (drop (at + 2) tokens)) ≡ behind_labels (pieces_of tokens)
 label-passed tokens at begins before =
     ap (λ (l : List Lexeme). behind_labels (pieces_of l)) (sym (drop-drop 2 at tokens)) ∙ sym (rw (all-left tokens at) at begins).1 ∙ before
+
+pub label-cut : (tokens : List Lexeme) (at : ℕ) (name : Lexeme) → BeginWithLabel (take (length tokens - at) (drop at tokens)) true → name ≡ get_or tokens at name → labels_before (pieces_of (drop at tokens)) ≡ piece_of name ∷ labels_before (pieces_of (drop (at + 2) tokens))
+label-cut tokens at name begins is =
+    let here = rw (all-left tokens at) at begins in
+    here.2 name
+    ∙ ap (λ (n : Lexeme). piece_of n ∷ labels_before (pieces_of (drop 2 (drop at tokens)))) (get_or-drop at tokens 0 name ∙ ap (λ (k : ℕ). get_or tokens k name) (add-zero at) ∙ sym is)
+    ∙ ap (λ (l : List Lexeme). piece_of name ∷ labels_before (pieces_of l)) (drop-drop 2 at tokens)
+
+pub label-none : (tokens : List Lexeme) (at : ℕ) → BeginWithLabel (take (length tokens - at) (drop at tokens)) false → labels_before (pieces_of (drop at tokens)) ≡ []
+label-none tokens at begins = (rw (all-left tokens at) at begins).0

@@ -1,2 +1,4 @@
 pub mod Lining
 pub mod Labelled
+pub mod Defined
+pub mod Joined

@@ -4,10 +4,12 @@
 //! `vx_lex`, which cuts a source into pieces, and on `vx_statement`, which judges a statement. To the crate above it gives lines.
 #![tactic(auto)]
 
+mod defining;
 mod label;
 mod lexical;
 mod line;
 
+pub use defining::{define, define_all};
 pub use label::{begin_with_label, labels_length};
 pub use lexical::bad_byte_fault;
 pub use line::{Line, read_line};
