@@ -1,4 +1,5 @@
 pub mod Lining
 pub mod Labelled
-pub mod Defined
+pub mod Naming
 pub mod Joined
+pub mod Passing

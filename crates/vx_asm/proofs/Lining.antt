@@ -8,7 +8,9 @@ use Rattle.vx_language.specs.declared.token.TokenKind.{TokenKind}
 use Rattle.vx_language.specs.declared.token.TokenKind.TheVariants as token
 use Rattle.vx_lex.specs.Pieces.{piece_in, BeginsAt}
 use Rattle.vx_lex.specs.declared.piece as lexer
-use Rattle.vx_asm.specs.Reading.{lines_at, lines_behind, prefixed}
+use Rattle.vx_statement.specs.Lexemes.{pieces_of}
+use Rattle.vx_statement.specs.declared.lexeme.Lexeme.{Lexeme}
+use Rattle.vx_asm.specs.Reading.{lines_at, prefixed}
 
 -- there is a line at least
 HasLine : List Line → Type 0
@@ -99,3 +101,6 @@ line-last source from at tokens past before =
 
 pub line-begun : (lines : List Line) → lines ≡ prefixed [] lines
 line-begun lines = sym (prefixed-none lines)
+
+pub begun-with : (source : List ℕ) (from : ℕ) (tokens : List Lexeme) → tokens ≡ [] → lines_at source from ≡ prefixed (pieces_of tokens) (lines_at source from)
+begun-with source from tokens e = rw e (line-begun (lines_at source from))

@@ -1,4 +1,4 @@
-ghost use Rattle.std.specs.Prelude.{◌≡◌, ◌≤◌, [], ◌∷◌, ◌++◌, IfOk, OnOk, length, filter, is_some};
+ghost use Rattle.std.specs.Prelude.{◌≡◌, ◌<◌, ◌≤◌, [], ◌∷◌, ◌++◌, IfOk, IfSome, OnOk, length, filter, is_some};
 ghost use Rattle.vx_language.specs.Lexemes.{token_kind, is_kind, is_token};
 ghost use Rattle.vx_language.specs.declared.token.TokenKind.TheVariants as token;
 ghost use Rattle.vx_lex.specs.Pieces.{piece_in};
@@ -77,7 +77,8 @@ fn push_token<'a>(
 
 /// The line of a source that begins at an offset where a piece begins. `Err` where memory is wanting.
 pub fn read_line<'a>(alloc: Global, source: &'a [u8], from: usize) -> Result<Line<'a>, AllocError>
-    ensures { IfOk result (λ line. IsLineAt source.entry.now from line) }
+    ensures line { IfOk result (λ line. IsLineAt source.entry.now from line) }
+    ensures ahead { IfOk result (λ line. IfSome line.next (λ next. (from < next) × (next ≤ length source.entry.now))) }
 {
     let mut tokens = SmallVec::new(alloc);
     let mut at = from;

@@ -1,6 +1,6 @@
 use Rattle.std.proofs.Common.{sym, ◌∙◌}
 use Rattle.vx_statement.specs.Lexemes.{piece_of}
-use Rattle.vx_asm.proofs.Defined.{defined-new, defined-again}
+use Rattle.vx_asm.proofs.Naming.{defined-new, defined-again}
 use Rattle.vx_asm.proofs.defining.define.Goals as goal
 
 pub returns-then-branch : goal.returns-then-branch

@@ -2,7 +2,7 @@ use Rattle.std.proofs.Common.{◌≤◌, ◌-◌, List, ℕ, drop, length}
 use Rattle.vx_language.specs.Lines.{labels_before}
 use Rattle.vx_statement.specs.Knowing.{Know}
 use Rattle.vx_statement.specs.Lexemes.{pieces_of}
-use Rattle.vx_asm.proofs.Defined.{Amid}
+use Rattle.vx_asm.proofs.Naming.{Amid}
 use Rattle.vx_asm.proofs.defining.define_all.Given as goal
 
 abbrev pub invariant-loop-labels : goal.invariant-loop-labels

@@ -1,5 +1,5 @@
 -- A label more.
-use Rattle.std.proofs.Common.{◌≡◌, ℕ, Bool, true, false, not, cond, ◌||◌, List, [], ◌∷◌, ◌++◌, Option, Some, None, refl, sym, ap, ◌∙◌, bytes_eq, subst}
+use Rattle.std.proofs.Common.{◌≡◌, ℕ, Bool, true, false, not, cond, ◌||◌, List, [], ◌∷◌, ◌++◌, map, append_assoc, Option, Some, None, refl, sym, ap, ◌∙◌, bytes_eq, subst}
 use Rattle.std.specs.List.{list_any}
 use Rattle.std.proofs.lemmas.Bool.{false≢true}
 use Rattle.std.proofs.lemmas.Slice.Eq.{bytes_eq-Decides}
@@ -102,4 +102,55 @@ unfolding twice_faults first_of
 amid-over own before names labels found none amid = record {
   judged = sym (first-none found) ∙ ap (λ (l : List Piece). first found (first_of (twice_faults amid.known_names l))) (sym none) ∙ amid.judged;
   known = subst (Know labels) (sym (ap (named_with amid.known_names) none) ∙ amid.named) amid.known;
+}
+
+-- the labels of more lines
+twice-behind : (names : List (List ℕ)) (own more : List Piece) → twice_faults names (own ++ more) ≡ twice_faults names own ++ twice_faults (named_with names own) more
+unfolding twice_faults
+twice-behind names [] more = refl
+twice-behind names (label ∷ own) more =
+    ap (λ (l : List Fault). again label names ++ l) (twice-behind (label.text ∷ names) own more)
+    ∙ sym (append_assoc (again label names) (twice_faults (label.text ∷ names) own) (twice_faults (named_with (label.text ∷ names) own) more))
+
+named-behind : (names : List (List ℕ)) (own more : List Piece) → named_with names (own ++ more) ≡ named_with (named_with names own) more
+named-behind names [] more = refl
+named-behind names (label ∷ own) more = named-behind (label.text ∷ names) own more
+
+pub amid-lines : (own part rest before : List Piece) (names : List (List ℕ)) (labels new : List Label) (found fault more : Option Fault) → before ≡ part ++ rest → ((known : List (List ℕ)) → Know labels known → DefineAll part known new fault) → more ≡ first found fault → Amid own before names labels found → Amid own rest names new more
+amid-lines own part rest before names labels new found fault more cut defines joined amid =
+    let step = defines amid.known_names amid.known in
+    let names_then = named_with amid.known_names part in
+    record {
+      known_names = names_then;
+      known = step.known;
+      judged =
+        ap (λ (o : Option Fault). first o (first_of (twice_faults names_then rest))) (joined ∙ ap (first found) step.judged)
+        ∙ first-twice found (first_of (twice_faults amid.known_names part)) (first_of (twice_faults names_then rest))
+        ∙ ap (first found) (sym (first_of-append (twice_faults amid.known_names part) (twice_faults names_then rest)))
+        ∙ ap (λ (l : List Fault). first found (first_of l)) (sym (twice-behind amid.known_names part rest))
+        ∙ ap (λ (l : List Piece). first found (first_of (twice_faults amid.known_names l))) (sym cut)
+        ∙ amid.judged;
+      named = sym (named-behind amid.known_names part rest) ∙ ap (named_with amid.known_names) (sym cut) ∙ amid.named;
+    }
+
+-- names in their order or in the other
+or-three : (a b c : Bool) → (a || (b || c)) ≡ ((b || a) || c)
+or-three true true c = refl
+or-three true false c = refl
+or-three false true c = refl
+or-three false false c = refl
+
+or-none : (a : Bool) → (a || false) ≡ a
+or-none true = refl
+or-none false = refl
+
+named-any : (name : List ℕ) (names : List (List ℕ)) (own : List Piece) → list_any (bytes_eq name) (named_with names own) ≡ (list_any (bytes_eq name) (map (λ (label : Piece). label.text) own) || list_any (bytes_eq name) names)
+named-any name names [] = refl
+named-any name names (label ∷ own) =
+    named-any name (label.text ∷ names) own
+    ∙ or-three (list_any (bytes_eq name) (map (λ (l : Piece). l.text) own)) (bytes_eq name label.text) (list_any (bytes_eq name) names)
+
+pub know-all : (labels : List Label) (own : List Piece) → Know labels (named_with [] own) → Know labels (map (λ (label : Piece). label.text) own)
+know-all labels own known = record {
+  same = λ name. known.same name ∙ named-any name [] own ∙ or-none (list_any (bytes_eq name) (map (λ (label : Piece). label.text) own));
 }
