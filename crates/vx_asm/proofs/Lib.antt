@@ -3,3 +3,4 @@ pub mod Labelled
 pub mod Naming
 pub mod Joined
 pub mod Passing
+pub mod Lexing

@@ -13,5 +13,5 @@ mod line;
 pub use defining::{define, define_all};
 pub use label::{begin_with_label, labels_length};
 pub use labels::{Defined, defined_labels};
-pub use lexical::bad_byte_fault;
+pub use lexical::lexical_fault;
 pub use line::{Line, read_line};
