@@ -1,5 +1,5 @@
 -- Statements by the forms of their names.
-use Rattle.std.proofs.Common.{◌≡◌, ℕ, suc, ◌+◌, ◌<◌, ◌≤◌, length, get_or, arith, Bool, true, false, cond, ◌||◌, ◌&&◌, ◌==◌, List, [], ◌∷◌, map, drop, find, Option, Some, None, Result, Ok, Err, IfOk, option_map, refl, sym, ap, ◌∙◌}
+use Rattle.std.proofs.Common.{◌≡◌, ℕ, suc, ◌+◌, ◌<◌, ◌≤◌, length, get_or, arith, Bool, true, false, ◌||◌, ◌==◌, List, [], ◌∷◌, map, drop, find, Option, Some, None, Result, Ok, Err, IfOk, option_map, refl, sym, ap, ◌∙◌}
 use Rattle.std.specs.List.{list_any}
 use Rattle.std.proofs.lemmas.Bool.{false≢true}
 use Rattle.std.proofs.lemmas.Bool.Decides.{nat_tests}
@@ -25,7 +25,7 @@ use Rattle.vx_statement.specs.declared.lexeme.Lexeme.{Lexeme}
 use Rattle.vx_statement.specs.declared.slot.Slot.{Slot}
 use Rattle.vx_statement.specs.declared.way.Way.{Way}
 use Rattle.vx_statement.proofs.Lookups.{found-forth}
-use Rattle.vx_statement.proofs.Judging.{any-mapped, cut-off}
+use Rattle.vx_statement.proofs.Judging.{cut-off}
 
 -- the faults of a statement whose name has these forms
 by-forms : List (List ℕ) → ℕ → Piece → List Piece → List language.Form → List Fault

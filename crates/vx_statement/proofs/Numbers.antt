@@ -1,9 +1,9 @@
 -- Numbers out of every range.
-use Rattle.std.proofs.Common.{◌≡◌, ℕ, ◌+◌, ◌-◌, ◌^◌, ◌<◌, ◌≤◌, ◌≤ℤ◌, Bool, true, false, cond, ◌&&◌, ℤ, pos, neg_ℤ, Option, Some, None, arith, refl}
+use Rattle.std.proofs.Common.{◌≡◌, ℕ, ◌^◌, ◌<◌, ◌≤ℤ◌, true, false, cond, ◌&&◌, ℤ, pos, neg_ℤ, Some, None, arith, refl}
 use Rattle.std.specs.Prelude.{int_le}
 use Rattle.std.proofs.lemmas.Int.{ints}
 use Rattle.vx_language.specs.Numerals.{is_number_value}
-use Rattle.vx_language.specs.Slots.{is_within, is_offset, signed_range}
+use Rattle.vx_language.specs.Slots.{is_offset}
 use Rattle.vx_statement.specs.Ranges.{width_of}
 use Rattle.vx_statement.specs.declared.range.Reach.{Reach}
 use Rattle.vx_statement.specs.declared.range.Reach.TheVariants.{Branch, Jump}

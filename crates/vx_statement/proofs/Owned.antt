@@ -1,12 +1,12 @@
 -- The faults of a statement where it stands, part by part.
-use Rattle.std.proofs.Common.{◌≡◌, ℕ, suc, ◌+◌, ◌<◌, ◌≤◌, length, get_or, arith, Bool, true, false, not, cond, ◌&&◌, List, [], ◌∷◌, ◌++◌, map, filter, drop, Option, Some, None, Result, Ok, Err, IfOk, refl, sym, ap, ◌∙◌}
+use Rattle.std.proofs.Common.{◌≡◌, ℕ, ◌+◌, ◌<◌, ◌≤◌, length, get_or, arith, Bool, true, false, not, cond, ◌&&◌, List, [], ◌∷◌, ◌++◌, map, filter, drop, Option, Some, None, Result, Ok, Err, IfOk, refl, sym, ap, ◌∙◌}
 use Rattle.std.specs.List.{list_any}
 use Rattle.std.specs.declared.alloc.AllocError.{AllocError}
 use Rattle.std.proofs.lemmas.List.{drop_all}
 use Rattle.vx_language.specs.Faults.{fault_at, first_of, earlier}
 use Rattle.vx_language.specs.Lexemes.{Piece, is_a, is_bad}
 use Rattle.vx_language.specs.Places.{Place, is_code, may_have_code_in, name_placement_faults, placement_faults}
-use Rattle.vx_language.specs.Statements.{forms_for, named_faults, statement_faults}
+use Rattle.vx_language.specs.Statements.{named_faults, statement_faults}
 use Rattle.vx_language.specs.Tokens.{bad_pieces}
 use Rattle.vx_language.specs.declared.fault.Fault.{Fault}
 use Rattle.vx_language.specs.declared.fault.FaultKind.TheVariants.{BadOperand, BadToken}

@@ -1,6 +1,5 @@
 -- Steps of lists of numbers.
-use Rattle.std.proofs.Common.{◌≡◌, ℕ, zero, suc, ◌+◌, Bool, true, false, not, cond, ◌&&◌, List, [], ◌∷◌, drop, map, Option, Some, None, refl, sym, ap, ◌∙◌, codes, arith}
-use Rattle.std.specs.List.{count_by}
+use Rattle.std.proofs.Common.{◌≡◌, ℕ, zero, suc, ◌+◌, Bool, true, false, cond, List, [], ◌∷◌, drop, Option, Some, None, refl, ◌∙◌, codes, arith}
 use Rattle.std.proofs.lemmas.Bool.{false≢true}
 use Rattle.std.proofs.lemmas.List.Sums.{sum_by-cons}
 use Rattle.vx_language.specs.Forms.{numbers}
@@ -8,8 +7,6 @@ use Rattle.vx_language.specs.Lexemes.{Piece, is_a, is_kind, token_kind}
 use Rattle.vx_language.specs.Lines.{is_the_mark}
 use Rattle.vx_language.specs.Slots as slots
 use Rattle.vx_language.specs.Statements.{go_on_with}
-use Rattle.vx_language.specs.declared.token.PieceKind.{PieceKind}
-use Rattle.vx_language.specs.declared.token.PieceKind.TheVariants.{Good, Bad, Stray, Blank}
 use Rattle.vx_language.specs.declared.token.TokenKind.{TokenKind}
 use Rattle.vx_language.specs.declared.token.TokenKind.TheVariants as token
 use Rattle.vx_statement.specs.Ranges.{range_of}

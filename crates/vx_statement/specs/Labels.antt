@@ -1,5 +1,5 @@
 -- The labels of a source, as the assembler keeps them. This project's own.
-use Rattle.std.specs.Prelude.{◌≡◌, ℕ, Bool, List, map, find, bytes_eq, Option, option_map}
+use Rattle.std.specs.Prelude.{ℕ, Bool, List, find, bytes_eq, Option, option_map}
 use Rattle.std.specs.List.{list_any}
 use denote.Ref.{Bor}
 

@@ -1,5 +1,5 @@
 -- The tokens of a source as the assembler keeps them. This project's own.
-use Rattle.std.specs.Prelude.{◌≡◌, ◌+◌, List, length, map}
+use Rattle.std.specs.Prelude.{List, map}
 use Rattle.vx_language.specs.Lexemes.{Piece}
 use Rattle.vx_statement.specs.declared.lexeme.Lexeme.{Lexeme}
 

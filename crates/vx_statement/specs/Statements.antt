@@ -1,5 +1,5 @@
 -- Statements as the assembler keeps them. This project's own.
-use Rattle.std.specs.Prelude.{◌≡◌, ℕ, List, [], ◌∷◌, map}
+use Rattle.std.specs.Prelude.{◌≡◌, ℕ, List, map}
 use Rattle.vx_language.specs.Forms.{forms_of}
 use Rattle.vx_statement.specs.Ways.{form_of}
 use Rattle.vx_statement.specs.declared.form.Form.{Form}

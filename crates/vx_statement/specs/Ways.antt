@@ -1,5 +1,5 @@
 -- What a way to go on and a form stand for. This project's own.
-use Rattle.std.specs.Prelude.{◌≡◌, ℕ, Bool, true, false, List, [], ◌∷◌, map, drop, count_by, codes, Option, Some, None}
+use Rattle.std.specs.Prelude.{◌≡◌, ℕ, Bool, true, false, List, ◌∷◌, map, drop, count_by, codes, Option, Some, None}
 use Rattle.vx_language.specs.Forms as language
 use Rattle.vx_language.specs.Code as code
 use Rattle.vx_language.specs.Lexemes.{Piece}

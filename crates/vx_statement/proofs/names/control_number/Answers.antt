@@ -1,4 +1,4 @@
-use Rattle.std.proofs.Common.{◌≡◌, List, ℕ, Option, find, option_map, rules, tests, bytes_eq, refl, ap, ◌∙◌}
+use Rattle.std.proofs.Common.{option_map, rules, tests, bytes_eq, ap}
 use Rattle.std.proofs.lemmas.Iterator.{YieldsList-from_slice}
 use Rattle.std.proofs.lemmas.Iterator.Search.{find_from_yields_List}
 use Rattle.vx_language.specs.Names.{control_number}

@@ -1,9 +1,8 @@
-use Rattle.std.proofs.Common.{◌≡◌, List, ℕ, Option, find, option_map, rules, tests, bytes_eq, refl}
+use Rattle.std.proofs.Common.{rules, tests, bytes_eq, refl}
 use Rattle.std.proofs.lemmas.Iterator.{YieldsList-from_slice}
 use Rattle.std.proofs.lemmas.Iterator.Search.{find_from_yields_List}
 use Rattle.vx_rows.specs.Names.{mnemonic}
 use Rattle.vx_rows.specs.Table.{operations, row}
-use Rattle.vx_rows.specs.declared.op.Op.{Op}
 use Rattle.vx_rows.specs.declared.row.Row.{Row}
 use Rattle.vx_statement.proofs.Lookups.{found-back}
 use Rattle.vx_statement.proofs.names.operation_named.Goals as goal

@@ -1,4 +1,4 @@
-use Rattle.std.proofs.Common.{rules, tests, bytes_eq, ◌∙◌, sym, List, ℕ}
+use Rattle.std.proofs.Common.{rules, tests, bytes_eq, ◌∙◌, sym}
 use Rattle.std.proofs.lemmas.Iterator.{YieldsList-from_slice}
 use Rattle.std.proofs.lemmas.Iterator.Search.{position_from_yields_List}
 use Rattle.vx_statement.proofs.Lookups.{position-map}

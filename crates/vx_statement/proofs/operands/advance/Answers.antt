@@ -1,10 +1,6 @@
-use Rattle.std.proofs.Common.{◌≡◌, ℕ, ◌+◌, ◌<◌, ◌≤◌, List, [], ◌∷◌, ◌++◌, take, length, get_or, subst, sym, arith}
-use Rattle.std.proofs.lemmas.List.{take_more, take_all}
-use Rattle.vx_language.specs.Lexemes.{Piece}
-use Rattle.vx_statement.specs.Advances.{Advances}
+use Rattle.std.proofs.Common.{◌≤◌, take, length, arith}
+use Rattle.std.proofs.lemmas.List.{take_all}
 use Rattle.vx_statement.specs.Lexemes.{piece_of}
-use Rattle.vx_statement.specs.declared.slot.Slot.{Slot}
-use Rattle.vx_statement.specs.declared.way.Way.{Way}
 use Rattle.vx_statement.proofs.Advancing.{advanced-more}
 use Rattle.vx_statement.proofs.operands.advance.Goals as goal
 

@@ -1,7 +1,5 @@
-use Rattle.std.proofs.Common.{◌≡◌, ℕ, ◌+◌, ◌<◌, ◌≤◌, List, [], ◌∷◌, ◌++◌, map, drop, length, get_or, Some, sym, ap, ◌∙◌, arith}
-use Rattle.vx_language.specs.Lexemes.{Piece}
+use Rattle.std.proofs.Common.{Some, ap, ◌∙◌}
 use Rattle.vx_statement.specs.Firsts.{first}
-use Rattle.vx_statement.specs.Lexemes.{piece_of, pieces_of}
 use Rattle.vx_statement.proofs.Judging.{token-judged, token-refused, line-judged}
 use Rattle.vx_statement.proofs.operands.operand_fault.Goals as goal
 

@@ -1,6 +1,5 @@
-use Rattle.std.proofs.Common.{◌≡◌, List, [], ◌∷◌, length, ap, sym, ◌∙◌, refl}
+use Rattle.std.proofs.Common.{◌≡◌, [], ◌∷◌}
 use Rattle.vx_statement.specs.Lexemes.{piece_of, pieces_of}
-use Rattle.vx_statement.specs.declared.lexeme.Lexeme.{Lexeme}
 use Rattle.vx_statement.proofs.Owned.{own-joined, own-none, none-of}
 use Rattle.vx_statement.proofs.own.own_fault.Goals as goal
 

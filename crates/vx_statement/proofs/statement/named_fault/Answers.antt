@@ -1,8 +1,6 @@
 use Rattle.std.proofs.Common.{ap, sym, ◌∙◌, Some}
-use Rattle.vx_language.specs.Statements.{named_faults}
 use Rattle.vx_statement.specs.Lexemes.{piece_of, pieces_of}
-use Rattle.vx_statement.specs.Knowing.{Know}
-use Rattle.vx_statement.proofs.Naming.{unknown-name, known-name, named-handed}
+use Rattle.vx_statement.proofs.Naming.{unknown-name, named-handed}
 use Rattle.vx_statement.proofs.statement.named_fault.Goals as goal
 
 pub returns-then-is_empty : goal.returns-then-is_empty

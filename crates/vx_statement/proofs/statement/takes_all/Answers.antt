@@ -1,4 +1,4 @@
-use Rattle.std.proofs.Common.{sym, ◌∙◌, rules}
+use Rattle.std.proofs.Common.{◌∙◌}
 use Rattle.vx_statement.proofs.Naming.{taken-on, refused-at, done-all}
 use Rattle.vx_statement.proofs.statement.takes_all.Goals as goal
 

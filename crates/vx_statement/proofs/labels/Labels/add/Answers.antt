@@ -1,4 +1,4 @@
-use Rattle.std.proofs.Common.{◌≡◌, ℕ, Bool, true, false, not, List, map, ap, sym, ◌∙◌, ◌++◌, ◌∷◌, []}
+use Rattle.std.proofs.Common.{not, List, map, ap, sym, ◌∙◌, ◌++◌, ◌∷◌, []}
 use Rattle.vx_statement.specs.Labels.{Label, has_name, label_of}
 use Rattle.vx_statement.proofs.Labelled.{has-entries, insert-entries}
 use Rattle.vx_statement.proofs.labels.Labels.add.Goals as goal
