@@ -89,11 +89,11 @@ amid-more own label rest before names labels new found fault more cut defines jo
       known_names = label.text ∷ amid.known_names;
       known = step.known;
       judged =
-        ap (λ (o : Option Fault). first o (first_of later)) (joined ∙ ap (first found) step.judged)
-        ∙ first-twice found (first_of (again label amid.known_names)) (first_of later)
-        ∙ ap (first found) (sym (first_of-append (again label amid.known_names) later))
-        ∙ ap (λ (l : List Piece). first found (first_of (twice_faults amid.known_names l))) (sym cut)
-        ∙ amid.judged;
+          ap (λ (o : Option Fault). first o (first_of later)) (joined ∙ ap (first found) step.judged)
+          ∙ first-twice found (first_of (again label amid.known_names)) (first_of later)
+          ∙ ap (first found) (sym (first_of-append (again label amid.known_names) later))
+          ∙ ap (λ (l : List Piece). first found (first_of (twice_faults amid.known_names l))) (sym cut)
+          ∙ amid.judged;
       named = ap (named_with amid.known_names) (sym cut) ∙ amid.named;
     }
 
@@ -124,12 +124,12 @@ amid-lines own part rest before names labels new found fault more cut defines jo
       known_names = names_then;
       known = step.known;
       judged =
-        ap (λ (o : Option Fault). first o (first_of (twice_faults names_then rest))) (joined ∙ ap (first found) step.judged)
-        ∙ first-twice found (first_of (twice_faults amid.known_names part)) (first_of (twice_faults names_then rest))
-        ∙ ap (first found) (sym (first_of-append (twice_faults amid.known_names part) (twice_faults names_then rest)))
-        ∙ ap (λ (l : List Fault). first found (first_of l)) (sym (twice-behind amid.known_names part rest))
-        ∙ ap (λ (l : List Piece). first found (first_of (twice_faults amid.known_names l))) (sym cut)
-        ∙ amid.judged;
+          ap (λ (o : Option Fault). first o (first_of (twice_faults names_then rest))) (joined ∙ ap (first found) step.judged)
+          ∙ first-twice found (first_of (twice_faults amid.known_names part)) (first_of (twice_faults names_then rest))
+          ∙ ap (first found) (sym (first_of-append (twice_faults amid.known_names part) (twice_faults names_then rest)))
+          ∙ ap (λ (l : List Fault). first found (first_of l)) (sym (twice-behind amid.known_names part rest))
+          ∙ ap (λ (l : List Piece). first found (first_of (twice_faults amid.known_names l))) (sym cut)
+          ∙ amid.judged;
       named = sym (named-behind amid.known_names part rest) ∙ ap (named_with amid.known_names) (sym cut) ∙ amid.named;
     }
 

@@ -9,6 +9,8 @@ mod label;
 mod labels;
 mod lexical;
 mod line;
+#[cfg(test)]
+mod tests;
 
 pub use defining::{define, define_all};
 pub use label::{begin_with_label, labels_length};

@@ -17,7 +17,7 @@ loop-labels-preserved c =
     record {
       within = label-within c.args.tokens.now c.loop-labels.at begins c.loop-labels.invariant.within;
       amid = λ names known.
-        amid-more _ _ _ _ names _ _ c.loop-labels.found _ _ (label-cut c.args.tokens.now c.loop-labels.at _ begins c.index-tokens-at.is) (λ before knows. c.in_ok-fault.ensures before knows) c.first-found.ensures (c.loop-labels.invariant.amid names known);
+          amid-more _ _ _ _ names _ _ c.loop-labels.found _ _ (label-cut c.args.tokens.now c.loop-labels.at _ begins c.index-tokens-at.is) (λ before knows. c.in_ok-fault.ensures before knows) c.first-found.ensures (c.loop-labels.invariant.amid names known);
     }
 
 pub returns : goal.returns
