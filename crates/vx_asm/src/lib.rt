@@ -1,7 +1,8 @@
-//! The assembler: the program of a source, or its first fault.
+//! The assembler, as far as it goes: the lines of a source, its labels, and its first lexical fault.
 //!
-//! It stands on `vx_language`, whose definitions say which faults a source has and which program one without a fault is, on
-//! `vx_lex`, which cuts a source into pieces, and on `vx_statement`, which judges a statement. To the crate above it gives lines.
+//! It stands on `vx_language`, whose definitions say which faults a source has, on `vx_lex`, which cuts a source into pieces,
+//! and on `vx_statement`, which judges a statement. To the crate above it gives `read_line`, `labels_length`, which tells a
+//! line's labels from its statement, `defined_labels` and `lexical_fault`.
 #![tactic(auto)]
 
 mod defining;

@@ -1,8 +1,9 @@
-//! One statement of the assembler's language: what its name is, the forms that it may have, its faults, and the bytes that it
-//! gives.
+//! One statement of the assembler's language: the names that it may use, the forms that it may have, and its faults.
 //!
-//! It stands on `vx_language`, whose definitions say all of this, on `vx_lex`, which tells what a number and a text mean, and
-//! on `vx_decode`, which makes words of instructions. To the crate above it gives statements, judged and turned into bytes.
+//! It stands on `vx_language`, whose definitions say all of this, on `vx_lex`, which tells what a number is, and on the kit's
+//! `indexmap` for labels and `smallvec` for forms. To the crate above it gives `Lexeme`, a token with its text, `Labels`,
+//! `own_fault`, the first fault of a statement where it stands, `form_for`, the form that it has, and `first`, the first of two
+//! faults.
 #![tactic(auto)]
 
 mod faults;
