@@ -3,6 +3,7 @@ pub mod Numbers
 pub mod Labelled
 pub mod Steps
 pub mod Pushed
+pub mod Tabled
 pub mod Firsts
 pub mod Advancing
 pub mod Judging

@@ -1,6 +1,5 @@
 ghost use Rattle.std.specs.Prelude.{◌≡◌, ◌<◌, map, find, length, position, bytes_eq, IfSome};
-ghost use Rattle.vx_rows.specs.Names.{mnemonic};
-ghost use Rattle.vx_rows.specs.Table.{operations};
+ghost use Rattle.vx_rows.specs.Table.{mnemonic, operations};
 ghost use Rattle.vx_rows.specs.declared.op.Op.{Op};
 ghost use Rattle.vx_language.specs.Names.{numbered_names, register_number, control_number, bare_instr, instr_named};
 ghost use Rattle.vx_source.specs.Names.{named_controls};

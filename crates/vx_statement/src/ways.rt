@@ -1,4 +1,4 @@
-ghost use Rattle.std.specs.Prelude.{◌≡◌, map};
+ghost use Rattle.std.specs.Prelude.{◌≡◌, [], map, option_map, unwrap_or};
 ghost use Rattle.vx_language.specs.Slots.{operand_ways, ways_behind_commas};
 ghost use Rattle.vx_source.specs.Operands.{operand_kinds};
 ghost use Rattle.vx_statement.specs.Ways.{slots_of};
@@ -39,10 +39,10 @@ const SOURCE: Slot = Slot::SourceField(Range {
     greatest: 31,
 });
 
-/// The ways to write the operands of a row of this shape.
+/// The ways to write the operands of a row of this shape; none where its rows have no line yet, as those of vector shapes.
 #[tactic(auto, unfolding(vx_language::specs::Slots::ways_behind_commas))]
 pub fn instr_ways(shape: Shape) -> &'static [&'static [Slot]]
-    ensures { map slots_of result.now ≡ operand_ways (operand_kinds shape) }
+    ensures { map slots_of result.now ≡ unwrap_or (option_map operand_ways (operand_kinds shape)) [] }
 {
     use Slot::{ControlRegister, Mark, Offset, Rd, Rs1, Rs2};
     match shape {
@@ -59,5 +59,11 @@ pub fn instr_ways(shape: Shape) -> &'static [&'static [Slot]]
         Shape::Csr => &[&[Rd, COMMA, ControlRegister, COMMA, Rs1]],
         Shape::CsrNumber => &[&[Rd, COMMA, ControlRegister, COMMA, SOURCE]],
         Shape::Fixed => &[&[]],
+        Shape::SetType | Shape::SetNumber | Shape::SetRegister | Shape::Vector(_, _, _) => &[],
+        Shape::UnitMemory
+        | Shape::WholeMemory
+        | Shape::MaskMemory
+        | Shape::StridedMemory
+        | Shape::IndexedMemory => &[],
     }
 }
