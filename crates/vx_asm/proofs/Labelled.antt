@@ -1,7 +1,6 @@
 -- Labels before a statement.
-use Rattle.std.proofs.Common.{◌≡◌, ℕ, suc, ◌+◌, ◌-◌, ◌<◌, ◌≤◌, length, take, get_or, arith, Bool, true, false, cond, List, [], ◌∷◌, map, drop, refl, sym, ap, ◌∙◌, length-drop, add-zero}
+use Rattle.std.proofs.Common.{◌≡◌, ℕ, ◌+◌, ◌-◌, ◌<◌, ◌≤◌, length, take, get_or, arith, Bool, true, false, List, [], ◌∷◌, drop, refl, sym, ap, ◌∙◌, length-drop, add-zero}
 use Rattle.std.proofs.lemmas.List.{drop-drop, take_all, get_or-drop}
-use Rattle.vx_language.specs.Lexemes.{Piece}
 use Rattle.vx_language.specs.Lines.{is_label, labels_before, behind_labels}
 use Rattle.vx_statement.specs.Lexemes.{piece_of, pieces_of}
 use Rattle.vx_statement.specs.declared.lexeme.Lexeme.{Lexeme}

@@ -1,16 +1,15 @@
 -- The bad pieces of a source, one after the other.
-use Rattle.std.proofs.Common.{◌≡◌, ℕ, ◌+◌, ◌-◌, ◌<◌, ◌≤◌, length, arith, Bool, true, false, cond, List, [], ◌∷◌, ◌++◌, map, filter, drop, length-drop, Option, Some, None, refl, sym, ap, ◌∙◌}
+use Rattle.std.proofs.Common.{◌≡◌, ℕ, ◌+◌, ◌-◌, ◌≤◌, length, arith, Bool, true, false, cond, List, [], ◌∷◌, ◌++◌, map, filter, drop, length-drop, Option, Some, None, refl, sym, ap, ◌∙◌}
 use Rattle.std.specs.Prelude.{slice_range}
 use Rattle.std.proofs.lemmas.List.{drop_all, length-take-le}
-use Rattle.vx_language.specs.Faults.{fault_at, first_of, earlier}
-use Rattle.vx_language.specs.Lexemes.{Piece, is_bad, is_bad_kind, pieces_from, pieces_behind, pieces}
+use Rattle.vx_language.specs.Faults.{fault_at, first_of, earlier, earliest}
+use Rattle.vx_language.specs.Lexemes.{Piece, is_bad, is_bad_kind, pieces_from, pieces_behind}
 use Rattle.vx_language.specs.Tokens.{bad_pieces}
 use Rattle.vx_language.specs.declared.fault.Fault.{Fault}
 use Rattle.vx_language.specs.declared.fault.FaultKind.TheVariants.{BadToken}
 use Rattle.vx_lex.specs.Pieces.{piece_in, BeginsAt}
 use Rattle.vx_lex.specs.declared.piece as lexer
-use Rattle.vx_statement.specs.Firsts.{first}
-use Rattle.vx_asm.proofs.Joined.{first-twice, first_of-append, first-none}
+use Rattle.vx_statement.proofs.Firsts.{first-twice, first_of-append, first-none}
 
 bad-cut : (b : Bool) (p : Piece) (ps : List Piece) → map (fault_at BadToken) (cond b (p ∷ ps) ps) ≡ map (fault_at BadToken) (cond b (p ∷ []) []) ++ map (fault_at BadToken) ps
 bad-cut true p ps = refl
@@ -37,18 +36,18 @@ piece-judged source piece b order within e =
     let same : own ≡ fault_at BadToken (piece_in source piece) = ap (λ (n : ℕ). let f : Fault = record { kind = BadToken; span = record { start = piece.span.start; end = n } } in f) (sym (whole-span source piece.span.start piece.span.end order within)) in
     ap (λ (f : Fault). cond b (Some f) None) same ∙ rw e (by-bad (piece_in source piece) (is_bad (piece_in source piece)))
 
-pub pieces-on : (source : List ℕ) (at : ℕ) (piece : lexer.Piece.Piece) (found fault new whole : Option Fault) → BeginsAt source at piece → new ≡ first found fault → fault ≡ first_of (bad_pieces (piece_in source piece ∷ [])) → first found (first_of (bad_pieces (pieces_from source at))) ≡ whole → first new (first_of (bad_pieces (pieces_from source piece.span.end))) ≡ whole
+pub pieces-on : (source : List ℕ) (at : ℕ) (piece : lexer.Piece.Piece) (found fault new whole : Option Fault) → BeginsAt source at piece → new ≡ earliest found fault → fault ≡ first_of (bad_pieces (piece_in source piece ∷ [])) → earliest found (first_of (bad_pieces (pieces_from source at))) ≡ whole → earliest new (first_of (bad_pieces (pieces_from source piece.span.end))) ≡ whole
 pieces-on source at piece found fault new whole begins joined judged before =
     let rest = pieces_from source piece.span.end in
     let own = piece_in source piece in
-    ap (λ (o : Option Fault). first o (first_of (bad_pieces rest))) (joined ∙ ap (first found) judged)
+    ap (λ (o : Option Fault). earliest o (first_of (bad_pieces rest))) (joined ∙ ap (earliest found) judged)
     ∙ first-twice found (first_of (bad_pieces (own ∷ []))) (first_of (bad_pieces rest))
-    ∙ ap (first found) (sym (first_of-append (bad_pieces (own ∷ [])) (bad_pieces rest)))
-    ∙ ap (λ (l : List Fault). first found (first_of l)) (sym (bad-first own rest))
-    ∙ ap (λ (l : List Piece). first found (first_of (bad_pieces l))) (sym begins.pieces)
+    ∙ ap (earliest found) (sym (first_of-append (bad_pieces (own ∷ [])) (bad_pieces rest)))
+    ∙ ap (λ (l : List Fault). earliest found (first_of l)) (sym (bad-first own rest))
+    ∙ ap (λ (l : List Piece). earliest found (first_of (bad_pieces l))) (sym begins.pieces)
     ∙ before
 
-pub pieces-over : (source : List ℕ) (at : ℕ) (found whole : Option Fault) → length source ≤ at → first found (first_of (bad_pieces (pieces_from source at))) ≡ whole → found ≡ whole
+pub pieces-over : (source : List ℕ) (at : ℕ) (found whole : Option Fault) → length source ≤ at → earliest found (first_of (bad_pieces (pieces_from source at))) ≡ whole → found ≡ whole
 unfolding pieces_behind bad_pieces first_of
 pieces-over source at found whole past before =
-    sym (first-none found) ∙ ap (λ (l : List ℕ). first found (first_of (bad_pieces (pieces_behind 0 at l)))) (sym (drop_all at source past)) ∙ before
+    sym (first-none found) ∙ ap (λ (l : List ℕ). earliest found (first_of (bad_pieces (pieces_behind 0 at l)))) (sym (drop_all at source past)) ∙ before

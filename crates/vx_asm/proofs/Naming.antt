@@ -1,18 +1,17 @@
 -- A label more.
-use Rattle.std.proofs.Common.{◌≡◌, ℕ, Bool, true, false, not, cond, ◌||◌, List, [], ◌∷◌, ◌++◌, map, append_assoc, Option, Some, None, refl, sym, ap, ◌∙◌, bytes_eq, subst}
+use Rattle.std.proofs.Common.{◌≡◌, ℕ, Bool, true, false, not, ◌||◌, List, [], ◌∷◌, ◌++◌, map, append_assoc, Option, Some, None, refl, sym, ap, ◌∙◌, bytes_eq, subst}
 use Rattle.std.specs.List.{list_any}
 use Rattle.std.proofs.lemmas.Bool.{false≢true}
 use Rattle.std.proofs.lemmas.Slice.Eq.{bytes_eq-Decides}
 use Rattle.vx_language.specs.Assembly.{twice_faults}
-use Rattle.vx_language.specs.Faults.{fault_at, first_of, earlier}
+use Rattle.vx_language.specs.Faults.{fault_at, first_of, earlier, earliest}
 use Rattle.vx_language.specs.Lexemes.{Piece}
 use Rattle.vx_language.specs.declared.fault.Fault.{Fault}
 use Rattle.vx_language.specs.declared.fault.FaultKind.TheVariants.{Twice}
 use Rattle.vx_statement.specs.Knowing.{Know}
 use Rattle.vx_statement.specs.Labels.{Label, has_name}
-use Rattle.vx_statement.specs.Firsts.{first}
 use Rattle.vx_asm.specs.Defining.{again, Defines, DefineAll, named_with}
-use Rattle.vx_asm.proofs.Joined.{first-twice, first_of-append, first-none}
+use Rattle.vx_statement.proofs.Firsts.{first-twice, first_of-append, first-none}
 
 or-swapped : (a b : Bool) → (a || (b || false)) ≡ (b || a)
 or-swapped true true = refl
@@ -74,13 +73,13 @@ defined-again label names old new fault added labels is known =
 pub record Amid (own rest : List Piece) (names : List (List ℕ)) (labels : List Label) (found : Option Fault) : Type 0 where
   pub known_names : List (List ℕ)
   pub known : Know labels known_names
-  pub judged : first found (first_of (twice_faults known_names rest)) ≡ first_of (twice_faults names own)
+  pub judged : earliest found (first_of (twice_faults known_names rest)) ≡ first_of (twice_faults names own)
   pub named : named_with known_names rest ≡ named_with names own
 
 pub amid-begun : (own : List Piece) (names : List (List ℕ)) (labels : List Label) → Know labels names → Amid own own names labels None
 amid-begun own names labels known = record { known_names = names; known = known; judged = refl; named = refl }
 
-pub amid-more : (own : List Piece) (label : Piece) (rest before : List Piece) (names : List (List ℕ)) (labels new : List Label) (found fault more : Option Fault) → before ≡ label ∷ rest → ((known : List (List ℕ)) → Know labels known → Defines label known new fault) → more ≡ first found fault → Amid own before names labels found → Amid own rest names new more
+pub amid-more : (own : List Piece) (label : Piece) (rest before : List Piece) (names : List (List ℕ)) (labels new : List Label) (found fault more : Option Fault) → before ≡ label ∷ rest → ((known : List (List ℕ)) → Know labels known → Defines label known new fault) → more ≡ earliest found fault → Amid own before names labels found → Amid own rest names new more
 unfolding twice_faults
 amid-more own label rest before names labels new found fault more cut defines joined amid =
     let step = defines amid.known_names amid.known in
@@ -89,10 +88,10 @@ amid-more own label rest before names labels new found fault more cut defines jo
       known_names = label.text ∷ amid.known_names;
       known = step.known;
       judged =
-          ap (λ (o : Option Fault). first o (first_of later)) (joined ∙ ap (first found) step.judged)
+          ap (λ (o : Option Fault). earliest o (first_of later)) (joined ∙ ap (earliest found) step.judged)
           ∙ first-twice found (first_of (again label amid.known_names)) (first_of later)
-          ∙ ap (first found) (sym (first_of-append (again label amid.known_names) later))
-          ∙ ap (λ (l : List Piece). first found (first_of (twice_faults amid.known_names l))) (sym cut)
+          ∙ ap (earliest found) (sym (first_of-append (again label amid.known_names) later))
+          ∙ ap (λ (l : List Piece). earliest found (first_of (twice_faults amid.known_names l))) (sym cut)
           ∙ amid.judged;
       named = ap (named_with amid.known_names) (sym cut) ∙ amid.named;
     }
@@ -100,7 +99,7 @@ amid-more own label rest before names labels new found fault more cut defines jo
 pub amid-over : (own before : List Piece) (names : List (List ℕ)) (labels : List Label) (found : Option Fault) → before ≡ [] → Amid own before names labels found → DefineAll own names labels found
 unfolding twice_faults first_of
 amid-over own before names labels found none amid = record {
-  judged = sym (first-none found) ∙ ap (λ (l : List Piece). first found (first_of (twice_faults amid.known_names l))) (sym none) ∙ amid.judged;
+  judged = sym (first-none found) ∙ ap (λ (l : List Piece). earliest found (first_of (twice_faults amid.known_names l))) (sym none) ∙ amid.judged;
   known = subst (Know labels) (sym (ap (named_with amid.known_names) none) ∙ amid.named) amid.known;
 }
 
@@ -116,7 +115,7 @@ named-behind : (names : List (List ℕ)) (own more : List Piece) → named_with 
 named-behind names [] more = refl
 named-behind names (label ∷ own) more = named-behind (label.text ∷ names) own more
 
-pub amid-lines : (own part rest before : List Piece) (names : List (List ℕ)) (labels new : List Label) (found fault more : Option Fault) → before ≡ part ++ rest → ((known : List (List ℕ)) → Know labels known → DefineAll part known new fault) → more ≡ first found fault → Amid own before names labels found → Amid own rest names new more
+pub amid-lines : (own part rest before : List Piece) (names : List (List ℕ)) (labels new : List Label) (found fault more : Option Fault) → before ≡ part ++ rest → ((known : List (List ℕ)) → Know labels known → DefineAll part known new fault) → more ≡ earliest found fault → Amid own before names labels found → Amid own rest names new more
 amid-lines own part rest before names labels new found fault more cut defines joined amid =
     let step = defines amid.known_names amid.known in
     let names_then = named_with amid.known_names part in
@@ -124,11 +123,11 @@ amid-lines own part rest before names labels new found fault more cut defines jo
       known_names = names_then;
       known = step.known;
       judged =
-          ap (λ (o : Option Fault). first o (first_of (twice_faults names_then rest))) (joined ∙ ap (first found) step.judged)
+          ap (λ (o : Option Fault). earliest o (first_of (twice_faults names_then rest))) (joined ∙ ap (earliest found) step.judged)
           ∙ first-twice found (first_of (twice_faults amid.known_names part)) (first_of (twice_faults names_then rest))
-          ∙ ap (first found) (sym (first_of-append (twice_faults amid.known_names part) (twice_faults names_then rest)))
-          ∙ ap (λ (l : List Fault). first found (first_of l)) (sym (twice-behind amid.known_names part rest))
-          ∙ ap (λ (l : List Piece). first found (first_of (twice_faults amid.known_names l))) (sym cut)
+          ∙ ap (earliest found) (sym (first_of-append (twice_faults amid.known_names part) (twice_faults names_then rest)))
+          ∙ ap (λ (l : List Fault). earliest found (first_of l)) (sym (twice-behind amid.known_names part rest))
+          ∙ ap (λ (l : List Piece). earliest found (first_of (twice_faults amid.known_names l))) (sym cut)
           ∙ amid.judged;
       named = sym (named-behind amid.known_names part rest) ∙ ap (named_with amid.known_names) (sym cut) ∙ amid.named;
     }

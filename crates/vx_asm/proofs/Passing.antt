@@ -1,11 +1,11 @@
 -- A pass over the lines of a source.
-use Rattle.std.proofs.Common.{◌≡◌, ℕ, ◌+◌, ◌-◌, ◌<◌, ◌≤◌, length, arith, List, [], ◌∷◌, ◌++◌, Option, Some, None, refl, sym, ap, ◌∙◌}
+use Rattle.std.proofs.Common.{◌≡◌, ℕ, ◌+◌, ◌-◌, ◌<◌, ◌≤◌, arith, List, [], ◌∷◌, ◌++◌, Option, Some, None, refl, ap, ◌∙◌}
 use Rattle.std.specs.Prelude.{IfSome}
+use Rattle.vx_language.specs.Faults.{earliest}
 use Rattle.vx_language.specs.Lexemes.{lexemes}
 use Rattle.vx_language.specs.Lines.{Line, lines, labels_in, labels_before}
 use Rattle.vx_language.specs.Lexemes.{Piece}
 use Rattle.vx_language.specs.declared.fault.Fault.{Fault}
-use Rattle.vx_statement.specs.Firsts.{first}
 use Rattle.vx_statement.specs.Knowing.{Know}
 use Rattle.vx_statement.specs.Labels.{Label}
 use Rattle.vx_statement.specs.Lexemes.{pieces_of}
@@ -41,7 +41,7 @@ labels-first : (line : Line) (more : List Line) → labels_in (line ∷ more) �
 unfolding labels_in
 labels-first line more = refl
 
-pub amid-step : (source : List ℕ) (from : ℕ) (line : asm.Line) (tokens : List Lexeme) (own : List Piece) (labels new : List Label) (found fault more : Option Fault) → IsLineAt source from line → tokens ≡ line.tokens.items → ((known : List (List ℕ)) → Know labels known → DefineAll (labels_before (pieces_of tokens)) known new fault) → more ≡ first found fault → Amid own (labels_in (lines_at source from)) [] labels found → Amid own (labels_in (lines_behind source line.next)) [] new more
+pub amid-step : (source : List ℕ) (from : ℕ) (line : asm.Line) (tokens : List Lexeme) (own : List Piece) (labels new : List Label) (found fault more : Option Fault) → IsLineAt source from line → tokens ≡ line.tokens.items → ((known : List (List ℕ)) → Know labels known → DefineAll (labels_before (pieces_of tokens)) known new fault) → more ≡ earliest found fault → Amid own (labels_in (lines_at source from)) [] labels found → Amid own (labels_in (lines_behind source line.next)) [] new more
 amid-step source from line tokens own labels new found fault more e is defines joined amid =
     let cut = ap labels_in e ∙ labels-first (line_of line) (lines_behind source line.next) in
     amid-lines own (labels_before (pieces_of line.tokens.items)) (labels_in (lines_behind source line.next)) (labels_in (lines_at source from)) [] labels new found fault more cut (rw is at defines) joined amid

@@ -1,68 +1,40 @@
 -- The first of faults is the first of the firsts of their parts.
-use Rattle.std.proofs.Common.{◌≡◌, ℕ, Bool, true, false, cond, ◌||◌, ◌&&◌, eqb, ltb, List, [], ◌∷◌, ◌++◌, Option, Some, None, refl, sym, ap, ◌∙◌, arith}
-use Rattle.std.proofs.lemmas.Bool.Decides.{nat_tests}
-use Rattle.vx_language.specs.Faults.{comes_before, rank, earlier, first_of}
+use Rattle.std.proofs.Common.{◌≡◌, List, [], ◌∷◌, ◌++◌, Option, Some, None, refl, sym, ap, ◌∙◌, append_assoc}
+use Rattle.vx_language.specs.Faults.{earlier, earliest, first_of}
 use Rattle.vx_language.specs.declared.fault.Fault.{Fault}
-use Rattle.vx_statement.specs.Firsts.{first}
+use Rattle.vx_language.proofs.First as language
 
--- by places and ranks
-before : ℕ → ℕ → ℕ → ℕ → Bool
-before a i b j = ltb a b || (eqb a b && ltb i j)
+pub first_of-append : (xs ys : List Fault) → first_of (xs ++ ys) ≡ earliest (first_of xs) (first_of ys)
+first_of-append xs ys = language.first_of-append xs ys
 
-before-all : (a i b j c k : ℕ) → before b j a i ≡ true → before c k b j ≡ true → before c k a i ≡ true
-unfolding before
-before-all a i b j c k p q = grind (arith, nat_tests)
+-- the faults whose first is this one, where there is one
+as-list : Option Fault → List Fault
+as-list None = []
+as-list (Some fault) = fault ∷ []
 
-before-none : (a i b j c k : ℕ) → before b j a i ≡ false → before c k b j ≡ false → before c k a i ≡ false
-unfolding before
-before-none a i b j c k p q = grind (arith, nat_tests)
+first-as : (a : Option Fault) → first_of (as-list a) ≡ a
+unfolding as-list first_of earlier
+first-as None = refl
+first-as (Some fault) = refl
 
-before-is : (x y : Fault) → comes_before x y ≡ before x.span.start (rank x.kind) y.span.start (rank y.kind)
-unfolding before comes_before
-before-is x y = refl
+joined : (a b : Option Fault) → first_of (as-list a ++ as-list b) ≡ earliest a b
+joined a b =
+    first_of-append (as-list a) (as-list b)
+    ∙ ap (λ (o : Option Fault). earliest o (first_of (as-list b))) (first-as a)
+    ∙ ap (earliest a) (first-as b)
 
-picks : (a b c : Fault) (ba cb ca : Bool) → (ba ≡ true → cb ≡ true → ca ≡ true) → (ba ≡ false → cb ≡ false → ca ≡ false) → cond ba (cond cb c b) (cond ca c a) ≡ cond cb (cond ca c a) (cond ba b a)
-picks a b c true true ca p q = let e = p refl refl in rw e refl
-picks a b c true false ca p q = refl
-picks a b c false true ca p q = refl
-picks a b c false false ca p q = let e = q refl refl in rw e refl
+pub first-twice : (a b c : Option Fault) → earliest (earliest a b) c ≡ earliest a (earliest b c)
+first-twice a b c =
+    let both = as-list b ++ as-list c in
+    ap (λ (o : Option Fault). earliest o c) (sym (joined a b))
+    ∙ ap (earliest (first_of (as-list a ++ as-list b))) (sym (first-as c))
+    ∙ sym (first_of-append (as-list a ++ as-list b) (as-list c))
+    ∙ ap first_of (append_assoc (as-list a) (as-list b) (as-list c))
+    ∙ first_of-append (as-list a) both
+    ∙ ap (λ (o : Option Fault). earliest o (first_of both)) (first-as a)
+    ∙ ap (earliest a) (joined b c)
 
--- what is the first of one and the first of two others
-chosen : (a b c : Fault) (ba : Bool) → comes_before b a ≡ ba → cond (comes_before c (cond ba b a)) c (cond ba b a) ≡ cond ba (cond (comes_before c b) c b) (cond (comes_before c a) c a)
-chosen a b c true e = refl
-chosen a b c false e = refl
-
-chosen-late : (a b c : Fault) (cb : Bool) → comes_before c b ≡ cb → cond (comes_before (cond cb c b) a) (cond cb c b) a ≡ cond cb (cond (comes_before c a) c a) (cond (comes_before b a) b a)
-chosen-late a b c true e = refl
-chosen-late a b c false e = refl
-
-earlier-twice : (a b c : Fault) → earlier (earlier a (Some b)) (Some c) ≡ earlier a (Some (earlier b (Some c)))
-unfolding earlier
-earlier-twice a b c =
-    chosen a b c (comes_before b a) refl
-    ∙ picks a b c (comes_before b a) (comes_before c b) (comes_before c a)
-    (λ p q. before-is c a ∙ before-all a.span.start (rank a.kind) b.span.start (rank b.kind) c.span.start (rank c.kind) (sym (before-is b a) ∙ p) (sym (before-is c b) ∙ q))
-    (λ p q. before-is c a ∙ before-none a.span.start (rank a.kind) b.span.start (rank b.kind) c.span.start (rank c.kind) (sym (before-is b a) ∙ p) (sym (before-is c b) ∙ q))
-    ∙ sym (chosen-late a b c (comes_before c b) refl)
-
-pub first-twice : (a b c : Option Fault) → first (first a b) c ≡ first a (first b c)
-unfolding earlier
-first-twice None b c = refl
-first-twice (Some a) None c = refl
-first-twice (Some a) (Some b) None = refl
-first-twice (Some a) (Some b) (Some c) = ap Some (earlier-twice a b c)
-
-first-behind : (a : Fault) (o : Option Fault) → Some (earlier a o) ≡ first (Some a) o
-first-behind a o = refl
-
-pub first_of-append : (xs ys : List Fault) → first_of (xs ++ ys) ≡ first (first_of xs) (first_of ys)
-unfolding first_of
-first_of-append [] ys = refl
-first_of-append (x ∷ xs) ys =
-    ap (λ (o : Option Fault). Some (earlier x o)) (first_of-append xs ys)
-    ∙ sym (first-twice (Some x) (first_of xs) (first_of ys))
-
-pub first-none : (a : Option Fault) → first a None ≡ a
+pub first-none : (a : Option Fault) → earliest a None ≡ a
 unfolding earlier
 first-none None = refl
 first-none (Some a) = refl

@@ -3,7 +3,7 @@ use Rattle.std.proofs.Common.{◌≡◌, ℕ, suc, ◌+◌, ◌<◌, ◌≤◌, 
 use Rattle.std.specs.List.{list_any}
 use Rattle.std.proofs.Math.Seq.{drop-cons}
 use Rattle.std.proofs.lemmas.List.{drop_all}
-use Rattle.vx_language.specs.Faults.{fault_at, first_of, earlier}
+use Rattle.vx_language.specs.Faults.{fault_at, first_of, earlier, earliest}
 use Rattle.vx_language.specs.Lexemes.{Piece}
 use Rattle.vx_language.specs.Slots.{token_faults}
 use Rattle.vx_language.specs.Slots as slots
@@ -11,7 +11,6 @@ use Rattle.vx_language.specs.Statements.{go_on_with, first_slot_faults, operand_
 use Rattle.vx_language.specs.declared.fault.Fault.{Fault}
 use Rattle.vx_language.specs.declared.fault.FaultKind.TheVariants.{BadOperand}
 use Rattle.vx_statement.specs.Advances.{Advances, heads, going_on}
-use Rattle.vx_statement.specs.Firsts.{first}
 use Rattle.vx_statement.specs.Lexemes.{piece_of, pieces_of}
 use Rattle.vx_statement.specs.Slots.{slot_of}
 use Rattle.vx_statement.specs.Ways.{commas_in, way_slots}
@@ -55,7 +54,7 @@ none-judged names end piece rest [] h e = refl
 none-judged names end piece rest ([] ∷ more) h e = absurd h
 none-judged names end piece rest ((slot ∷ later) ∷ more) h e = cc
 
-some-judged : (names : List (List ℕ)) (end : ℕ) (piece : Piece) (rest : List Piece) (slot : slots.Slot) (going behind : List (List slots.Slot)) → all-have piece going → Some slot ≡ heads going → behind ≡ map (drop 1) going → first_of (judged names end piece rest going) ≡ first (first_of (token_faults names slot piece)) (first_of (operand_faults names end behind rest))
+some-judged : (names : List (List ℕ)) (end : ℕ) (piece : Piece) (rest : List Piece) (slot : slots.Slot) (going behind : List (List slots.Slot)) → all-have piece going → Some slot ≡ heads going → behind ≡ map (drop 1) going → first_of (judged names end piece rest going) ≡ earliest (first_of (token_faults names slot piece)) (first_of (operand_faults names end behind rest))
 unfolding judged all-have
 some-judged names end piece rest slot [] behind h e later = cc
 some-judged names end piece rest slot ([] ∷ more) behind h e later = absurd h
@@ -68,7 +67,7 @@ bad-operand names end piece rest ways later step =
     ap first_of (faults-judged names end piece rest (map (way_slots (commas_in (piece ∷ rest))) ways))
     ∙ none-judged names end piece rest (going_on piece rest ways) (all-have-kept piece (map (way_slots (commas_in (piece ∷ rest))) ways)) step.taken
 
-pub next-operand : (names : List (List ℕ)) (end : ℕ) (piece : Piece) (rest : List Piece) (ways later : List Way) (slot : Slot) → Advances piece rest ways (Some slot) later → first_of (operand_faults names end (map (way_slots (commas_in (piece ∷ rest))) ways) (piece ∷ rest)) ≡ first (first_of (token_faults names (slot_of slot) piece)) (first_of (operand_faults names end (map (way_slots (commas_in rest)) later) rest))
+pub next-operand : (names : List (List ℕ)) (end : ℕ) (piece : Piece) (rest : List Piece) (ways later : List Way) (slot : Slot) → Advances piece rest ways (Some slot) later → first_of (operand_faults names end (map (way_slots (commas_in (piece ∷ rest))) ways) (piece ∷ rest)) ≡ earliest (first_of (token_faults names (slot_of slot) piece)) (first_of (operand_faults names end (map (way_slots (commas_in rest)) later) rest))
 next-operand names end piece rest ways later slot step =
     ap first_of (faults-judged names end piece rest (map (way_slots (commas_in (piece ∷ rest))) ways))
     ∙ some-judged names end piece rest (slot_of slot) (going_on piece rest ways) (map (way_slots (commas_in rest)) later) (all-have-kept piece (map (way_slots (commas_in (piece ∷ rest))) ways)) step.taken step.behind
@@ -96,30 +95,30 @@ cut-off tokens i token within is =
     ∙ ap (λ (n : ℕ). piece_of token ∷ pieces_of (drop n tokens)) (let e : suc i ≡ i + 1 = omega arith in e)
 
 -- a token that a slot takes
-pub token-judged : (names : List (List ℕ)) (end : ℕ) (tokens : List Lexeme) (i : ℕ) (token : Lexeme) (ways all later : List Way) (slot : Slot) (found fault new : Option Fault) → i < length tokens → token ≡ get_or tokens i token → ((rest : List Piece) → Advances (piece_of token) rest ways (Some slot) later) → new ≡ first found fault → fault ≡ first_of (token_faults names (slot_of slot) (piece_of token)) → first found (first_of (operand_faults names end (map (way_slots (commas_in (pieces_of (drop i tokens)))) ways) (pieces_of (drop i tokens)))) ≡ first_of (operand_faults names end (map (way_slots (commas_in (pieces_of tokens))) all) (pieces_of tokens)) → first new (first_of (operand_faults names end (map (way_slots (commas_in (pieces_of (drop (i + 1) tokens)))) later) (pieces_of (drop (i + 1) tokens)))) ≡ first_of (operand_faults names end (map (way_slots (commas_in (pieces_of tokens))) all) (pieces_of tokens))
+pub token-judged : (names : List (List ℕ)) (end : ℕ) (tokens : List Lexeme) (i : ℕ) (token : Lexeme) (ways all later : List Way) (slot : Slot) (found fault new : Option Fault) → i < length tokens → token ≡ get_or tokens i token → ((rest : List Piece) → Advances (piece_of token) rest ways (Some slot) later) → new ≡ earliest found fault → fault ≡ first_of (token_faults names (slot_of slot) (piece_of token)) → earliest found (first_of (operand_faults names end (map (way_slots (commas_in (pieces_of (drop i tokens)))) ways) (pieces_of (drop i tokens)))) ≡ first_of (operand_faults names end (map (way_slots (commas_in (pieces_of tokens))) all) (pieces_of tokens)) → earliest new (first_of (operand_faults names end (map (way_slots (commas_in (pieces_of (drop (i + 1) tokens)))) later) (pieces_of (drop (i + 1) tokens)))) ≡ first_of (operand_faults names end (map (way_slots (commas_in (pieces_of tokens))) all) (pieces_of tokens))
 token-judged names end tokens i token ways all later slot found fault new within is step is_new is_fault before =
     let rest = pieces_of (drop (i + 1) tokens) in
     let behind = first_of (operand_faults names end (map (way_slots (commas_in rest)) later) rest) in
     let here = next-operand names end (piece_of token) rest ways later slot (step rest) in
-    ap (λ (o : Option Fault). first o behind) (is_new ∙ ap (first found) is_fault)
+    ap (λ (o : Option Fault). earliest o behind) (is_new ∙ ap (earliest found) is_fault)
     ∙ first-twice found (first_of (token_faults names (slot_of slot) (piece_of token))) behind
-    ∙ ap (first found) (sym here)
-    ∙ ap (λ (l : List Piece). first found (first_of (operand_faults names end (map (way_slots (commas_in l)) ways) l))) (sym (cut-off tokens i token within is))
+    ∙ ap (earliest found) (sym here)
+    ∙ ap (λ (l : List Piece). earliest found (first_of (operand_faults names end (map (way_slots (commas_in l)) ways) l))) (sym (cut-off tokens i token within is))
     ∙ before
 
 -- one that none takes
-pub token-refused : (names : List (List ℕ)) (end : ℕ) (tokens : List Lexeme) (i : ℕ) (token : Lexeme) (ways all later : List Way) (found new : Option Fault) → i < length tokens → token ≡ get_or tokens i token → ((rest : List Piece) → Advances (piece_of token) rest ways None later) → new ≡ first found (Some (fault_at BadOperand (piece_of token))) → first found (first_of (operand_faults names end (map (way_slots (commas_in (pieces_of (drop i tokens)))) ways) (pieces_of (drop i tokens)))) ≡ first_of (operand_faults names end (map (way_slots (commas_in (pieces_of tokens))) all) (pieces_of tokens)) → new ≡ first_of (operand_faults names end (map (way_slots (commas_in (pieces_of tokens))) all) (pieces_of tokens))
+pub token-refused : (names : List (List ℕ)) (end : ℕ) (tokens : List Lexeme) (i : ℕ) (token : Lexeme) (ways all later : List Way) (found new : Option Fault) → i < length tokens → token ≡ get_or tokens i token → ((rest : List Piece) → Advances (piece_of token) rest ways None later) → new ≡ earliest found (Some (fault_at BadOperand (piece_of token))) → earliest found (first_of (operand_faults names end (map (way_slots (commas_in (pieces_of (drop i tokens)))) ways) (pieces_of (drop i tokens)))) ≡ first_of (operand_faults names end (map (way_slots (commas_in (pieces_of tokens))) all) (pieces_of tokens)) → new ≡ first_of (operand_faults names end (map (way_slots (commas_in (pieces_of tokens))) all) (pieces_of tokens))
 token-refused names end tokens i token ways all later found new within is step is_new before =
     let rest = pieces_of (drop (i + 1) tokens) in
     is_new
-    ∙ ap (first found) (sym (bad-operand names end (piece_of token) rest ways later (step rest)))
-    ∙ ap (λ (l : List Piece). first found (first_of (operand_faults names end (map (way_slots (commas_in l)) ways) l))) (sym (cut-off tokens i token within is))
+    ∙ ap (earliest found) (sym (bad-operand names end (piece_of token) rest ways later (step rest)))
+    ∙ ap (λ (l : List Piece). earliest found (first_of (operand_faults names end (map (way_slots (commas_in l)) ways) l))) (sym (cut-off tokens i token within is))
     ∙ before
 
 -- the line's end
-pub line-judged : (names : List (List ℕ)) (end : ℕ) (tokens : List Lexeme) (i : ℕ) (ways all : List Way) (found fault new : Option Fault) → length tokens ≤ i → new ≡ first found fault → fault ≡ first_of (operand_faults names end (map (way_slots 0) ways) []) → first found (first_of (operand_faults names end (map (way_slots (commas_in (pieces_of (drop i tokens)))) ways) (pieces_of (drop i tokens)))) ≡ first_of (operand_faults names end (map (way_slots (commas_in (pieces_of tokens))) all) (pieces_of tokens)) → new ≡ first_of (operand_faults names end (map (way_slots (commas_in (pieces_of tokens))) all) (pieces_of tokens))
+pub line-judged : (names : List (List ℕ)) (end : ℕ) (tokens : List Lexeme) (i : ℕ) (ways all : List Way) (found fault new : Option Fault) → length tokens ≤ i → new ≡ earliest found fault → fault ≡ first_of (operand_faults names end (map (way_slots 0) ways) []) → earliest found (first_of (operand_faults names end (map (way_slots (commas_in (pieces_of (drop i tokens)))) ways) (pieces_of (drop i tokens)))) ≡ first_of (operand_faults names end (map (way_slots (commas_in (pieces_of tokens))) all) (pieces_of tokens)) → new ≡ first_of (operand_faults names end (map (way_slots (commas_in (pieces_of tokens))) all) (pieces_of tokens))
 line-judged names end tokens i ways all found fault new past is_new is_fault before =
     is_new
-    ∙ ap (first found) is_fault
-    ∙ ap (λ (l : List Piece). first found (first_of (operand_faults names end (map (way_slots (commas_in l)) ways) l))) (sym (ap pieces_of (drop_all i tokens past)))
+    ∙ ap (earliest found) is_fault
+    ∙ ap (λ (l : List Piece). earliest found (first_of (operand_faults names end (map (way_slots (commas_in l)) ways) l))) (sym (ap pieces_of (drop_all i tokens past)))
     ∙ before

@@ -3,7 +3,7 @@ use Rattle.std.proofs.Common.{◌≡◌, ℕ, ◌+◌, ◌<◌, ◌≤◌, lengt
 use Rattle.std.specs.List.{list_any}
 use Rattle.std.specs.declared.alloc.AllocError.{AllocError}
 use Rattle.std.proofs.lemmas.List.{drop_all}
-use Rattle.vx_language.specs.Faults.{fault_at, first_of, earlier}
+use Rattle.vx_language.specs.Faults.{fault_at, first_of, earlier, earliest}
 use Rattle.vx_language.specs.Lexemes.{Piece, is_a, is_bad}
 use Rattle.vx_language.specs.Places.{Place, is_code, may_have_code_in, name_placement_faults, placement_faults}
 use Rattle.vx_language.specs.Statements.{named_faults, statement_faults}
@@ -11,7 +11,6 @@ use Rattle.vx_language.specs.Tokens.{bad_pieces}
 use Rattle.vx_language.specs.declared.fault.Fault.{Fault}
 use Rattle.vx_language.specs.declared.fault.FaultKind.TheVariants.{BadOperand, BadToken}
 use Rattle.vx_language.specs.declared.token.TokenKind.TheVariants as token
-use Rattle.vx_statement.specs.Firsts.{first}
 use Rattle.vx_statement.specs.Knowing.{Know}
 use Rattle.vx_statement.specs.Labels.{Label}
 use Rattle.vx_statement.specs.Lexemes.{piece_of, pieces_of}
@@ -42,20 +41,20 @@ pub bad-token : (piece : Piece) (b : Bool) → b ≡ is_bad piece → cond b (So
 unfolding bad_pieces first_of earlier
 bad-token piece b e = rw e (by-bad piece (is_bad piece))
 
-pub bad-next : (tokens : List Lexeme) (i : ℕ) (token : Lexeme) (found fault new whole : Option Fault) → i < length tokens → token ≡ get_or tokens i token → new ≡ first found fault → fault ≡ first_of (bad_pieces (piece_of token ∷ [])) → first found (first_of (bad_pieces (pieces_of (drop i tokens)))) ≡ whole → first new (first_of (bad_pieces (pieces_of (drop (i + 1) tokens)))) ≡ whole
+pub bad-next : (tokens : List Lexeme) (i : ℕ) (token : Lexeme) (found fault new whole : Option Fault) → i < length tokens → token ≡ get_or tokens i token → new ≡ earliest found fault → fault ≡ first_of (bad_pieces (piece_of token ∷ [])) → earliest found (first_of (bad_pieces (pieces_of (drop i tokens)))) ≡ whole → earliest new (first_of (bad_pieces (pieces_of (drop (i + 1) tokens)))) ≡ whole
 bad-next tokens i token found fault new whole within is is_new is_fault before =
     let rest = pieces_of (drop (i + 1) tokens) in
-    ap (λ (o : Option Fault). first o (first_of (bad_pieces rest))) (is_new ∙ ap (first found) is_fault)
+    ap (λ (o : Option Fault). earliest o (first_of (bad_pieces rest))) (is_new ∙ ap (earliest found) is_fault)
     ∙ first-twice found (first_of (bad_pieces (piece_of token ∷ []))) (first_of (bad_pieces rest))
-    ∙ ap (first found) (sym (first_of-append (bad_pieces (piece_of token ∷ [])) (bad_pieces rest)))
-    ∙ ap (λ (l : List Fault). first found (first_of l)) (sym (bad-first (piece_of token) rest))
-    ∙ ap (λ (l : List Piece). first found (first_of (bad_pieces l))) (sym (cut-off tokens i token within is))
+    ∙ ap (earliest found) (sym (first_of-append (bad_pieces (piece_of token ∷ [])) (bad_pieces rest)))
+    ∙ ap (λ (l : List Fault). earliest found (first_of l)) (sym (bad-first (piece_of token) rest))
+    ∙ ap (λ (l : List Piece). earliest found (first_of (bad_pieces l))) (sym (cut-off tokens i token within is))
     ∙ before
 
-pub bad-end : (tokens : List Lexeme) (i : ℕ) (found whole : Option Fault) → length tokens ≤ i → first found (first_of (bad_pieces (pieces_of (drop i tokens)))) ≡ whole → found ≡ whole
+pub bad-end : (tokens : List Lexeme) (i : ℕ) (found whole : Option Fault) → length tokens ≤ i → earliest found (first_of (bad_pieces (pieces_of (drop i tokens)))) ≡ whole → found ≡ whole
 unfolding bad_pieces first_of
 bad-end tokens i found whole past before =
-    sym (first-none found) ∙ ap (λ (l : List Lexeme). first found (first_of (bad_pieces (pieces_of l)))) (sym (drop_all i tokens past)) ∙ before
+    sym (first-none found) ∙ ap (λ (l : List Lexeme). earliest found (first_of (bad_pieces (pieces_of l)))) (sym (drop_all i tokens past)) ∙ before
 
 -- where an instruction may stand
 by-place : (a b m : Bool) (f : Fault) → first_of (cond (a && (b && not m)) (f ∷ []) []) ≡ cond a (cond b (cond m None (Some f)) None) None
@@ -89,12 +88,12 @@ begun-handed labels end piece operands (Ok fault) h k = λ names known. k names 
 begun-handed labels end piece operands (Err error) h k = tt
 
 -- the whole
-pub own-joined : (names : List (List ℕ)) (place : Place) (end : ℕ) (piece : Piece) (operands : List Piece) (by_itself by_tokens by_place : Option Fault) → by_itself ≡ first_of (statement_faults names end (piece ∷ operands)) → by_tokens ≡ first_of (bad_pieces (piece ∷ operands)) → by_place ≡ first_of (name_placement_faults place piece operands) → first (first by_itself by_tokens) by_place ≡ first_of (own_of names place end (piece ∷ operands))
+pub own-joined : (names : List (List ℕ)) (place : Place) (end : ℕ) (piece : Piece) (operands : List Piece) (by_itself by_tokens by_place : Option Fault) → by_itself ≡ first_of (statement_faults names end (piece ∷ operands)) → by_tokens ≡ first_of (bad_pieces (piece ∷ operands)) → by_place ≡ first_of (name_placement_faults place piece operands) → earliest (earliest by_itself by_tokens) by_place ≡ first_of (own_of names place end (piece ∷ operands))
 unfolding placement_faults
 own-joined names place end piece operands by_itself by_tokens by_place e f g =
     rw e (rw f (rw g (sym (
     first_of-append (statement_faults names end (piece ∷ operands) ++ bad_pieces (piece ∷ operands)) (name_placement_faults place piece operands)
-    ∙ ap (λ (o : Option Fault). first o (first_of (name_placement_faults place piece operands))) (first_of-append (statement_faults names end (piece ∷ operands)) (bad_pieces (piece ∷ operands)))))))
+    ∙ ap (λ (o : Option Fault). earliest o (first_of (name_placement_faults place piece operands))) (first_of-append (statement_faults names end (piece ∷ operands)) (bad_pieces (piece ∷ operands)))))))
 
 pub own-none : (names : List (List ℕ)) (place : Place) (end : ℕ) → None ≡ first_of (own_of names place end [])
 unfolding statement_faults bad_pieces placement_faults first_of

@@ -1,23 +1,12 @@
 -- Operations by the names of their rows.
-use Rattle.std.proofs.Common.{◌≡◌, ℕ, Bool, true, false, cond, inl, List, [], ◌∷◌, ◌++◌, map, find, Option, Some, None, option_map, refl, ap, ◌∙◌, arith}
+use Rattle.std.proofs.Common.{◌≡◌, Bool, true, false, cond, List, [], ◌∷◌, ◌++◌, map, find, Option, Some, option_map, refl, ap, ◌∙◌}
 use Rattle.std.specs.List.{flat_map}
-use Rattle.std.specs.Prelude.{unwrap_or}
-use Rattle.vx_rows.specs.Layouts.{HasFields, layout_of, row_nfs}
+use Rattle.vx_rows.specs.Layouts.{layout_of, row_nfs}
 use Rattle.vx_rows.specs.Table.{row_with, rows_of, shape_of, operations, table}
 use Rattle.vx_rows.specs.declared.op.Op.{Op}
 use Rattle.vx_rows.specs.declared.row.Nf.{Nf}
 use Rattle.vx_rows.specs.declared.row.Nf.TheVariants.{Absent, Any, Registers}
 use Rattle.vx_rows.specs.declared.row.Row.{Row}
-use Rattle.vx_language.specs.Forms.{form, alone, forms_with}
-use Rattle.vx_language.specs.Slots.{operand_ways}
-use Rattle.vx_source.specs.declared.operand.OperandKind.{OperandKind}
-use Rattle.vx_decode.specs.declared.instr.Instr.{Instr}
-
--- each operation has a row with no field nf, or with one of 0
-pub has-zero : (nf : Nf) → HasFields nf 0
-has-zero Absent = tt
-has-zero Any = omega arith
-has-zero Registers = inl refl
 
 -- the operation of the first row that is found behind rows of one operation
 found-row : (q : Op → Bool) (op : Op) (nf : Nf) (b : Bool) (rest : List Row) → q op ≡ b → option_map (λ (r : Row). r.op) (find (λ (r : Row). q r.op) (map (row_with op) (row_nfs nf) ++ rest)) ≡ cond b (Some op) (option_map (λ (r : Row). r.op) (find (λ (r : Row). q r.op) rest))
@@ -38,8 +27,3 @@ found-rows q (op ∷ ops) =
 pub found-in-table : (q : Op → Bool) (rows : List Row) (r : Option Row) → rows ≡ table → r ≡ find (λ (r : Row). q r.op) rows → option_map (λ (r : Row). r.op) r ≡ find q operations
 found-in-table q rows r e h =
     ap (option_map (λ (r : Row). r.op)) (h ∙ ap (find (λ (r : Row). q r.op)) e) ∙ found-rows q operations
-
--- the forms of an instruction, by the ways to write its operands
-pub forms-by-ways : (name : List ℕ) (i : Instr) (kinds : Option (List OperandKind)) → map (λ slots. form name slots (alone i)) (unwrap_or (option_map operand_ways kinds) []) ≡ forms_with name i kinds
-forms-by-ways name i None = refl
-forms-by-ways name i (Some kinds) = refl

@@ -1,6 +1,5 @@
 pub mod Advances
 pub mod Controls
-pub mod Firsts
 pub mod Knowing
 pub mod Labels
 pub mod Lexemes

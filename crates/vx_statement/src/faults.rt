@@ -1,6 +1,5 @@
 ghost use Rattle.std.specs.Prelude.{◌≡◌, Some};
-ghost use Rattle.vx_language.specs.Faults.{comes_before, rank, earlier};
-ghost use Rattle.vx_statement.specs.Firsts.{first};
+ghost use Rattle.vx_language.specs.Faults.{comes_before, rank, earlier, earliest};
 
 use vx_language::{Fault, FaultKind};
 
@@ -42,7 +41,7 @@ pub fn earlier(one: Fault, other: Option<Fault>) -> Fault
 
 /// The first of two faults, where there are any.
 pub fn first(one: Option<Fault>, other: Option<Fault>) -> Option<Fault>
-    ensures { result ≡ first one other }
+    ensures { result ≡ earliest one other }
 {
     match one {
         None => other,

@@ -1,6 +1,6 @@
-use Rattle.std.proofs.Common.{◌≡◌, ◌≤◌, List, ℕ, drop, length, arith, refl}
+use Rattle.std.proofs.Common.{arith}
 use Rattle.vx_language.specs.Lines.{labels_before}
-use Rattle.vx_statement.specs.Lexemes.{piece_of, pieces_of}
+use Rattle.vx_statement.specs.Lexemes.{pieces_of}
 use Rattle.vx_asm.proofs.Naming.{amid-begun, amid-more, amid-over}
 use Rattle.vx_asm.proofs.Labelled.{label-within, label-cut, label-none}
 use Rattle.vx_asm.proofs.defining.define_all.Goals as goal

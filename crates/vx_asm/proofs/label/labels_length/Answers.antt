@@ -1,4 +1,3 @@
-use Rattle.std.proofs.Common.{◌≡◌, ◌≤◌, drop, length, arith}
 use Rattle.vx_asm.proofs.Labelled.{label-within, label-passed}
 use Rattle.vx_asm.proofs.label.labels_length.Goals as goal
 

@@ -1,7 +1,7 @@
-use Rattle.std.proofs.Common.{◌≡◌, ◌∙◌, sym, arith, [], length}
+use Rattle.std.proofs.Common.{arith, length}
 use Rattle.vx_language.specs.Lines.{lines, labels_in}
 use Rattle.vx_asm.proofs.Naming.{know-all}
-use Rattle.vx_asm.proofs.Passing.{left-falls, within-next, amid-start, amid-step, amid-end}
+use Rattle.vx_asm.proofs.Passing.{within-next, amid-start, amid-step, amid-end}
 use Rattle.vx_asm.proofs.labels.defined_labels.Goals as goal
 
 pub loop-next-init : goal.loop-next-init

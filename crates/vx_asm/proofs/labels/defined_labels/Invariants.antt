@@ -1,4 +1,4 @@
-use Rattle.std.proofs.Common.{◌≤◌, ◌+◌, ◌-◌, ℕ, [], length, Option, Some, None}
+use Rattle.std.proofs.Common.{◌≤◌, [], length}
 use Rattle.std.specs.Prelude.{IfSome}
 use Rattle.vx_language.specs.Lines.{lines, labels_in}
 use Rattle.vx_asm.specs.Reading.{lines_behind}

@@ -1,7 +1,7 @@
-use Rattle.std.proofs.Common.{ap, sym, ◌∙◌}
+use Rattle.std.proofs.Common.{sym}
 use Rattle.vx_language.specs.Lexemes.{pieces}
 use Rattle.vx_language.specs.Tokens.{bad_bytes, bad_pieces}
-use Rattle.vx_asm.proofs.Joined.{first_of-append}
+use Rattle.vx_statement.proofs.Firsts.{first_of-append}
 use Rattle.vx_asm.proofs.lexical.lexical_fault.Goals as goal
 
 pub returns : goal.returns

@@ -1,4 +1,4 @@
-use Rattle.std.proofs.Common.{◌≡◌, ◌∙◌, sym, refl, arith}
+use Rattle.std.proofs.Common.{◌∙◌, sym, refl, arith}
 use Rattle.vx_statement.specs.Lexemes.{pieces_of}
 use Rattle.vx_asm.proofs.Lining.{begun-with, line-on, line-over, line-last}
 use Rattle.vx_asm.proofs.line.read_line.Goals as goal
