@@ -10,5 +10,5 @@ mod operand;
 #[cfg(test)]
 mod tests;
 
-pub use names::{control_name, register_name};
+pub use names::{control_name, register_name, register_names};
 pub use operand::{OperandKind, operand_kinds};

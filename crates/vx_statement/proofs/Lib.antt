@@ -1,0 +1,11 @@
+pub mod Lookups
+pub mod Numbers
+pub mod Labelled
+pub mod Steps
+pub mod Pushed
+pub mod Tabled
+pub mod Firsts
+pub mod Advancing
+pub mod Judging
+pub mod Naming
+pub mod Owned

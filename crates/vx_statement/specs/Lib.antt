@@ -1,0 +1,10 @@
+pub mod Advances
+pub mod Controls
+pub mod Knowing
+pub mod Labels
+pub mod Lexemes
+pub mod Owning
+pub mod Ranges
+pub mod Slots
+pub mod Statements
+pub mod Ways
