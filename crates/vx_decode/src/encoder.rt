@@ -1,4 +1,4 @@
-ghost use Rattle.std.specs.Prelude.{◌≡◌, ℕ, ◌+◌, ◌^◌, ◌<◌, Some, pos, neg_ℤ, ◌<ℤ◌, ◌≤ℤ◌};
+ghost use Rattle.std.specs.Prelude.{◌≡◌, ℕ, ◌+◌, ◌*◌, ◌%◌, ◌^◌, ◌<◌, Some, pos, neg_ℤ, ◌<ℤ◌, ◌≤ℤ◌};
 ghost use Rattle.vx_base.specs.Numbers.{reduced};
 ghost use Rattle.vx_decode.specs.Decoded.{decoded};
 ghost use Rattle.vx_decode.specs.Encoded.{IsValid, IsNumber, word_of, number_bits, vm_bits, bits_s, bits_b, bits_j};
@@ -20,7 +20,7 @@ pub fn encode(i: &Instr) -> u32
     let shape = i.op.shape();
     let registers = u32::from(i.rd) << 7 | u32::from(i.rs1) << 15 | u32::from(i.rs2) << 20;
     let unmasked = mask_bits(shape.layout().vm, i.vm);
-    i.op.bits() | (registers | number(shape, i) | unmasked | u32::from(i.nf) << 29)
+    i.op.bits() | (registers | number(shape, i) | unmasked | field_bits(i.nf))
 }
 
 /// Bit 25, where it isn't fixed.
@@ -31,6 +31,13 @@ fn mask_bits(vm: Vm, is_unmasked: bool) -> u32
         Vm::Any => u32::from(is_unmasked) << 25,
         Vm::Zero | Vm::One => 0,
     }
+}
+
+/// Bits 31 to 29.
+fn field_bits(nf: u8) -> u32
+    ensures { result ≡ nf * 2 ^ 29 % 2 ^ 32 }
+{
+    u32::from(nf) << 29
 }
 
 /// The bits of the number of an instruction of this shape.

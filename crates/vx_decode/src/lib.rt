@@ -18,8 +18,6 @@ mod known_words;
 mod memory;
 mod operation;
 mod rules;
-#[cfg(test)]
-mod tests;
 mod vector;
 
 pub use decoder::{decode, decoded_is_valid};

@@ -182,7 +182,7 @@ found word r (t ∷ rows) a (inr i) has =
     let not_here : has_bits_of word t ≡ false = not_true _ (λ p. not_both word t r apart p has) in
     rw not_here (found word r rows (and_parts _ _ a).1 i has)
 
-are_apart-table : are_apart table ≡ true
+pub are_apart-table : are_apart table ≡ true
 unfolding operations
 are_apart-table = refl
 

@@ -247,18 +247,3 @@ fn memory_name(op: MemoryOp, nf: u8) -> &'static str
     let names = &memory_names()[op as usize];
     names[usize::from(nf % 8)]
 }
-
-#[cfg(test)]
-mod tests {
-    use super::*;
-
-    #[test]
-    fn tells_rows_and_names(rt: HostRuntime) {
-        let found = rows().iter().find(|r| 0x0010_0513 & r.mask == r.value);
-        assert!(rt; found.is_some_and(|r| name_of(r.op, 0) == "addi"));
-        assert_eq!(rt; name_of(Op::Memory(MemoryOp::Vlse16), 4), "vlsseg5e16.v");
-        assert_eq!(rt; name_of(Op::Memory(MemoryOp::Vsr), 7), "vs8r.v");
-        fits_one_at_most();
-        has_its_rows();
-    }
-}

@@ -7,17 +7,17 @@ use Rattle.vx_decode.proofs.Encoding.{encoded-decodes, encoded-only, encoded-joi
 use Rattle.vx_decode.proofs.encoder.encode.Goals as goal
 
 -- what the body joins
-abbrev joined : (bits rd rs1 rs2 number vm nf : ℕ) → ℕ
-joined bits rd rs1 rs2 number vm nf =
-    bit_or bits (bit_or (bit_or (bit_or (bit_or (bit_or (rd * 128 % 4294967296) (rs1 * 32768 % 4294967296)) (rs2 * 1048576 % 4294967296)) number) vm) (nf * 536870912 % 4294967296))
+abbrev joined : (bits rd rs1 rs2 number vm fields : ℕ) → ℕ
+joined bits rd rs1 rs2 number vm fields =
+    bit_or bits (bit_or (bit_or (bit_or (bit_or (bit_or (rd * 128 % 4294967296) (rs1 * 32768 % 4294967296)) (rs2 * 1048576 % 4294967296)) number) vm) fields)
 
-word : (c : goal.After-from-4) → joined c.bits.result c.from.result c.from-2.result c.from-3.result c.number.result c.mask_bits-unmasked.result c.from-4.result ≡ word_of c.args.i.now
+word : (c : goal.After-field_bits) → joined c.bits.result c.from.result c.from-2.result c.from-3.result c.number.result c.mask_bits-unmasked.result c.field_bits.result ≡ word_of c.args.i.now
 word c =
     let i = c.args.i.now in
     let shape : c.shape-shape.result ≡ shape_of i.op = c.shape-shape.ensures in
     let number : c.number.result ≡ number_bits (layout_of (shape_of i.op)).number i.imm = c.number.ensures ∙ ap (λ s. number_bits (layout_of s).number i.imm) shape in
     let vm : c.mask_bits-unmasked.result ≡ vm_bits (layout_of (shape_of i.op)).vm i.vm = c.mask_bits-unmasked.ensures ∙ ap (λ l. vm_bits l.vm i.vm) (c.layout.ensures ∙ ap layout_of shape) in
-    rw (c.bits.ensures, c.from.ensures, c.from-2.ensures, c.from-3.ensures, c.from-4.ensures, number, vm) (encoded-joined i c.requires)
+    rw (c.bits.ensures, c.from.ensures, c.from-2.ensures, c.from-3.ensures, c.field_bits.ensures, number, vm) (encoded-joined i c.requires)
 
 pub returns-clause-value : goal.returns-clause-value
 returns-clause-value c = word c
