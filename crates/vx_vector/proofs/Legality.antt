@@ -31,17 +31,21 @@ use Rattle.vx_rows.specs.declared.op.PermOp.{PermOp}
 use Rattle.vx_rows.specs.declared.op.PermOp.TheVariants.{VrgatherVv}
 use Rattle.vx_rows.specs.declared.op.MemoryOp.{MemoryOp}
 use Rattle.vx_rows.specs.declared.op.MemoryOp.TheVariants.{Vle8}
+use Rattle.vx_rows.specs.declared.row.Addressing.{Addressing}
+use Rattle.vx_rows.specs.declared.row.Addressing.TheVariants as addressing
 use Rattle.vx_rows.specs.declared.row.Class.{Class}
-use Rattle.vx_rows.specs.declared.row.Class.TheVariants.{VectorArithmetic}
+use Rattle.vx_rows.specs.declared.row.Class.TheVariants.{VectorArithmetic, VectorLoad, VectorStore}
+use Rattle.vx_rows.specs.declared.row.Eew.{Eew}
 use Rattle.vx_rows.specs.declared.row.First.{First}
 use Rattle.vx_rows.specs.declared.row.First.TheVariants as first
 use Rattle.vx_rows.specs.declared.row.Second.{Second}
 use Rattle.vx_rows.specs.declared.row.Second.TheVariants as second
 use Rattle.vx_rows.specs.declared.row.Shape.{Shape}
 use Rattle.vx_rows.specs.declared.row.Shape.TheVariants.{Vector}
+use Rattle.vx_rows.specs.declared.row.Shape.TheVariants as shape
 use Rattle.vx_rows.specs.declared.row.Vm.{Vm}
 use Rattle.vx_decode.specs.Groups.{width_of, group_of, first_source, second_source, destinations_as, sources_as}
-use Rattle.vx_decode.specs.Legal.{is_bad_group, is_illegal, begins_at_first, lacks_configuration, has_bad_group, has_long_segment, overwrites_mask, overlaps_badly, meets_source, begins_late, is_too_wide}
+use Rattle.vx_decode.specs.Legal.{is_bad_group, is_too_long, is_illegal, begins_at_first, lacks_configuration, has_bad_group, has_long_segment, overwrites_mask, overlaps_badly, meets_source, begins_late, is_too_wide}
 use Rattle.vx_decode.specs.declared.instr.Instr.{Instr}
 use Rattle.vx_vstate.specs.Groups.{emul_eighths, registers_of_group, is_group_size}
 use Rattle.vx_vstate.specs.Registers.{words_of_register, words_of_all, element_word, is_byte_width, is_element_width}
@@ -62,7 +66,7 @@ pub record GroupLaws : Type 0 where
 
 -- ---- numbers
 
-by_size : (P : ℕ → Type 0) (n : ℕ) → P 1 → P 2 → P 4 → P 8 → is_group_size n ≡ true → P n
+pub by_size : (P : ℕ → Type 0) (n : ℕ) → P 1 → P 2 → P 4 → P 8 → is_group_size n ≡ true → P n
 by_size P n one two four eight h =
     ⊎_elim
     (λ t. ⊎_elim
@@ -75,7 +79,7 @@ by_size P n one two four eight h =
     (λ t. subst P (sym (eqb-true n 8 t)) eight)
     (or_cases (nat_eq n 1 || nat_eq n 2 || nat_eq n 4) (nat_eq n 8) h)
 
-by_width : (P : ℕ → Type 0) (n : ℕ) → P 8 → P 16 → P 32 → P 64 → is_byte_width n ≡ true → P n
+pub by_width : (P : ℕ → Type 0) (n : ℕ) → P 8 → P 16 → P 32 → P 64 → is_byte_width n ≡ true → P n
 by_width P n one two four eight h =
     ⊎_elim
     (λ t. ⊎_elim
@@ -89,7 +93,7 @@ by_width P n one two four eight h =
     (or_cases (nat_eq n 8 || nat_eq n 16 || nat_eq n 32) (nat_eq n 64) h)
 
 -- a group that begins at a multiple of its size ends among the 32 registers
-room : (n register : ℕ) → is_group_size n ≡ true → register < 32 → register % n ≡ 0 → register + n ≤ 32
+pub room : (n register : ℕ) → is_group_size n ≡ true → register < 32 → register % n ≡ 0 → register + n ≤ 32
 room n register h below aligned = by_size (λ n. register % n ≡ 0 → register + n ≤ 32) n (λ e. omega arith) (λ e. omega arith) (λ e. omega arith) (λ e. omega arith) h aligned
 
 -- an element's width that isn't bad is one of bytes
@@ -109,7 +113,7 @@ kept-64 : (o : Operand) → (not (leb 8 (width_of o 64) && leb (width_of o 64) 6
 kept-64 Absent = refl
 kept-64 other = refl
 
-implied : (a b : Bool) → (not a || b) ≡ true → a ≡ true → b ≡ true
+pub implied : (a b : Bool) → (not a || b) ≡ true → a ≡ true → b ≡ true
 implied true b h e = h
 implied false b h e = absurd (false≢true e)
 
@@ -121,13 +125,13 @@ bytes o S h good =
 
 -- ---- one operand
 
-record IsGood (register eew emul : ℕ) : Type 0 where
+pub record IsGood (register eew emul : ℕ) : Type 0 where
   pub width : (leb 8 eew && leb eew 64) ≡ true
   pub least : 1 ≤ emul
   pub most : emul ≤ 64
   pub aligned : register % registers_of_group emul ≡ 0
 
-good : (register eew emul : ℕ) → list_any is_bad_group ((record { register = register; eew = eew; is_mask = false; emul_eighths = emul; fields = 1 }) ∷ []) ≡ false → IsGood register eew emul
+pub good : (register eew emul : ℕ) → list_any is_bad_group ((record { register = register; eew = eew; is_mask = false; emul_eighths = emul; fields = 1 }) ∷ []) ≡ false → IsGood register eew emul
 good register eew emul h =
     let one = or_parts (not (leb 8 eew && leb eew 64) || not (leb 1 emul && leb emul 64) || not (nat_eq (register % registers_of_group emul) 0)) false h in
     let parts = or_parts (not (leb 8 eew && leb eew 64) || not (leb 1 emul && leb emul 64)) (not (nat_eq (register % registers_of_group emul) 0)) one.0 in
@@ -141,16 +145,16 @@ good register eew emul h =
     }
 
 -- a width of bytes is a width of elements
-as_width : (width : ℕ) → is_byte_width width ≡ true → (is_element_width width) ≡ true
+pub as_width : (width : ℕ) → is_byte_width width ≡ true → (is_element_width width) ≡ true
 as_width width h = by_width (λ n. is_element_width n ≡ true) width refl refl refl refl h
 
-some-words : (at : SettingView) → IsSetting at → 0 < words_of_register at.vlen
+pub some-words : (at : SettingView) → IsSetting at → 0 < words_of_register at.vlen
 some-words at k = let h = k.vlen_in_range in grind (arith, nat_tests, h)
 
-all-words : (at : SettingView) → IsSetting at → at.vlen ≡ 64 * words_of_register at.vlen
+pub all-words : (at : SettingView) → IsSetting at → at.vlen ≡ 64 * words_of_register at.vlen
 all-words at k = let h = k.vlen_in_range in grind (arith, nat_tests, h)
 
-whole-within : (at : SettingView) (n S i : ℕ) → IsSetting at → is_byte_width S ≡ true → i < n * at.vlen / S → element_word S i < n * words_of_register at.vlen
+pub whole-within : (at : SettingView) (n S i : ℕ) → IsSetting at → is_byte_width S ≡ true → i < n * at.vlen / S → element_word S i < n * words_of_register at.vlen
 whole-within at n S i k h l =
     let words = all-words at k in
     let some : 0 < S = by_width (λ n. 0 < n) S (omega arith) (omega arith) (omega arith) (omega arith) h in
@@ -212,9 +216,22 @@ placed L r k other register b h =
 
 -- ---- rows
 
--- a row without a register in the place of vs2 has no operand there
-row_fits : Class → Shape → Bool
+-- the shape is that of loads and stores of an addressing
+abbrev pub suits : Addressing → Shape → Bool
+suits addressing.Unit shape.UnitMemory = true
+suits addressing.FaultOnlyFirst shape.UnitMemory = true
+suits addressing.Whole shape.WholeMemory = true
+suits addressing.MaskBits shape.MaskMemory = true
+suits addressing.Strided shape.StridedMemory = true
+suits addressing.Unordered shape.IndexedMemory = true
+suits addressing.Ordered shape.IndexedMemory = true
+suits a s = false
+
+-- a row without a register in the place of vs2 has no operand there; a load or store has the shape of its addressing
+pub row_fits : Class → Shape → Bool
 row_fits (VectorArithmetic family) (Vector first second.Fixed vm) = is_absent (operands_of family).vs2
+row_fits (VectorLoad a width) s = suits a s
+row_fits (VectorStore a width) s = suits a s
 row_fits class shape = true
 
 scalar-fits : (o : ScalarOp) → row_fits (scalar_line o).class (scalar_line o).shape ≡ true
@@ -257,7 +274,15 @@ unfolding row_fits
 memory-fits Vle8 = refl
 memory-fits other = refl
 
-row-fits : (op : Op) → row_fits (class_of op) (shape_of op) ≡ true
+pub load-suits : (a : Addressing) (e : Eew) (s : Shape) → row_fits (VectorLoad a e) s ≡ true → suits a s ≡ true
+unfolding row_fits
+load-suits a e s h = h
+
+pub store-suits : (a : Addressing) (e : Eew) (s : Shape) → row_fits (VectorStore a e) s ≡ true → suits a s ≡ true
+unfolding row_fits
+store-suits a e s h = h
+
+pub row-fits : (op : Op) → row_fits (class_of op) (shape_of op) ≡ true
 row-fits (Scalar o) = scalar-fits o
 row-fits (Set o) = set-fits o
 row-fits (Elem o) = elem-fits o
@@ -286,11 +311,13 @@ placed-second L r k second.Vector i f e b h = placed L r k (operands_of r.family
 placed-second L r k second.Fixed i f e b h = absent-placed r (operands_of r.family).vs2 r.places.vs2 f b
 
 -- the rules of legality that are needed, over a class and a shape
-record IsAccepted (class : Class) (shape : Shape) (i : Instr) (at : SettingView) : Type 0 where
+pub record IsAccepted (class : Class) (shape : Shape) (i : Instr) (at : SettingView) : Type 0 where
   pub fits : row_fits class shape ≡ true
   pub destinations : list_any is_bad_group (destinations_as class i at) ≡ false
   pub sources : list_any is_bad_group (sources_as class shape i at) ≡ false
   pub begins : (not (nat_eq at.vstart 0) && begins_at_first class) ≡ false
+  pub short_destinations : list_any is_too_long (destinations_as class i at) ≡ false
+  pub short_sources : list_any is_too_long (sources_as class shape i at) ≡ false
 
 some-is : {X : Type 0} (x y : X) → Some x ≡ Some y → x ≡ y
 some-is x y h = cc
@@ -324,7 +351,7 @@ sound-as L (VectorArithmetic family) (Vector f s v) op at places words r k vd vs
     subst IsSound (some-is _ r e) (sound-reading L family f s v op at places words k vd vs1 vs2 h count)
 sound-as L class shape op at places words r k vd vs1 vs2 h count e = absurd (none-some r e)
 
-accepted : (i : Instr) (at : SettingView) → is_illegal i at ≡ false → row_fits (class_of i.op) (shape_of i.op) ≡ true → IsAccepted (class_of i.op) (shape_of i.op) i at
+pub accepted : (i : Instr) (at : SettingView) → is_illegal i at ≡ false → row_fits (class_of i.op) (shape_of i.op) ≡ true → IsAccepted (class_of i.op) (shape_of i.op) i at
 accepted i at h f =
     let a = or_parts (lacks_configuration i at || has_bad_group i at || has_long_segment i at || overwrites_mask i at || overlaps_badly i at || meets_source i at || begins_late i at) (is_too_wide i at) h in
     let b = or_parts (lacks_configuration i at || has_bad_group i at || has_long_segment i at || overwrites_mask i at || overlaps_badly i at || meets_source i at) (begins_late i at) a.0 in
@@ -334,7 +361,15 @@ accepted i at h f =
     let g = or_parts (lacks_configuration i at || has_bad_group i at) (has_long_segment i at) e.0 in
     let k = or_parts (lacks_configuration i at) (has_bad_group i at) g.0 in
     let groups = or_parts (list_any is_bad_group (destinations_as (class_of i.op) i at)) (list_any is_bad_group (sources_as (class_of i.op) (shape_of i.op) i at)) k.1 in
-    record { fits = f; destinations = groups.0; sources = groups.1; begins = b.1 }
+    let short = or_parts (list_any is_too_long (destinations_as (class_of i.op) i at)) (list_any is_too_long (sources_as (class_of i.op) (shape_of i.op) i at)) g.1 in
+    record {
+      fits = f;
+      destinations = groups.0;
+      sources = groups.1;
+      begins = b.1;
+      short_destinations = short.0;
+      short_sources = short.1;
+    }
 
 pub legal-sound : (L : GroupLaws) (op : Op) (at : SettingView) (places : Places) (words : List ℕ) (r : Reading) → IsLegal op at places → length words ≡ words_of_all at.vlen → reading_of op at places words ≡ Some r → IsSound r
 legal-sound L op at places words r h count e =

@@ -1,8 +1,12 @@
+pub mod Batches
 pub mod Elements
 pub mod Inside
 pub mod Legality
+pub mod Loads
 pub mod Made
 pub mod Members
+pub mod Movements
+pub mod Needed
 pub mod Sources
 pub mod Standard
 pub mod StandardLists

@@ -1,8 +1,8 @@
 -- Members of lists, and tests of which one passes.
-use Rattle.std.proofs.Common.{◌||◌, ◌≡◌, ℕ, zero, suc, ◌+◌, ◌-◌, ◌<◌, ◌≤◌, Bool, true, false, List, [], ◌∷◌, map, refl, sym, ap, ◌∙◌, subst, ⊎_elim, eq-or-lt_of_le, arith}
+use Rattle.std.proofs.Common.{◌||◌, ◌≡◌, ℕ, zero, suc, ◌+◌, ◌-◌, ◌<◌, ◌≤◌, Bool, true, false, List, [], ◌∷◌, ◌++◌, length, length-append, map, refl, sym, ap, ◌∙◌, subst, ⊎_elim, eq-or-lt_of_le, arith}
 use Rattle.std.specs.List.{Contains, list_any, range_with_len, flat_map}
 use Rattle.std.proofs.lemmas.Bool.{or_cases, or_left, or_right, true≢false}
-use Rattle.std.proofs.lemmas.List.Elements.{Contains-append_left, Contains-append_right}
+use Rattle.std.proofs.lemmas.List.Elements.{Contains-append_left, Contains-append_right, Contains-append_cases}
 use Rattle.std.proofs.lemmas.List.FromFn.{length-range_with_len, get_or-range_with_len}
 use Rattle.vx_packed.specs.Joined.{some_below}
 
@@ -85,3 +85,40 @@ pub some_alike : (n : ℕ) (f g : ℕ → Bool) → ((k : ℕ) → k < n → f k
 unfolding some_below
 some_alike zero f g h = refl
 some_alike (suc n) f g h = λ i. some_alike n f g (λ k l. h k (omega arith)) i || h n (omega arith) i
+
+-- ---- lists of lists
+
+pub member_before_flat_map : {X Y : Type 0} (f : X → List Y) (xs : List X) (y : Y) → Contains (flat_map f xs) y → (x : X) × Contains xs x × Contains (f x) y
+member_before_flat_map f [] y h = absurd (omega (arith, h.1))
+member_before_flat_map f (x ∷ xs) y h =
+    ⊎_elim
+    (λ c. (x, member_first x xs, c))
+    (λ c. let r = member_before_flat_map f xs y c in (r.0, member_rest x xs r.0 r.1, r.2))
+    (Contains-append_cases (f x) (flat_map f xs) y h)
+
+pub flat_map_alike : {X Y : Type 0} (f g : X → List Y) (xs : List X) → ((x : X) → Contains xs x → f x ≡ g x) → flat_map f xs ≡ flat_map g xs
+flat_map_alike f g [] h = refl
+flat_map_alike f g (x ∷ xs) h = λ i. h x (member_first x xs) i ++ flat_map_alike f g xs (λ y c. h y (member_rest x xs y c)) i
+
+pub flat_map_lengths : {X Y : Type 0} (f g : X → List Y) (xs : List X) → ((x : X) → Contains xs x → length (f x) ≡ length (g x)) → length (flat_map f xs) ≡ length (flat_map g xs)
+flat_map_lengths f g [] h = refl
+flat_map_lengths f g (x ∷ xs) h =
+    let first = h x (member_first x xs) in
+    let rest = flat_map_lengths f g xs (λ y c. h y (member_rest x xs y c)) in
+    length-append (f x) (flat_map f xs) ∙ (λ i. first i + rest i) ∙ sym (length-append (g x) (flat_map g xs))
+
+pub flat_map_none : {X Y : Type 0} (f : X → List Y) (xs : List X) → ((x : X) → Contains xs x → f x ≡ []) → flat_map f xs ≡ []
+flat_map_none f [] h = refl
+flat_map_none f (x ∷ xs) h = λ i. h x (member_first x xs) i ++ flat_map_none f xs (λ y c. h y (member_rest x xs y c)) i
+
+-- the numbers of a range are those of its first and those of its rest
+pub range_joined : (a n k : ℕ) → range_with_len a (n + k) ≡ range_with_len a n ++ range_with_len (a + n) k
+range_joined a zero k =
+    let from : a ≡ a + 0 = omega arith in
+    let count : 0 + k ≡ k = omega arith in
+    λ i. range_with_len (from i) (count i)
+range_joined a (suc n) k =
+    let one : suc n + k ≡ suc (n + k) = omega arith in
+    let next : (a + 1) + n ≡ a + suc n = omega arith in
+    ap (range_with_len a) one
+    ∙ ap (λ xs. a ∷ xs) (range_joined (a + 1) n k ∙ ap (λ b. range_with_len (a + 1) n ++ range_with_len b k) next)

@@ -1,9 +1,11 @@
 pub mod Accesses
 pub mod Arithmetic
+pub mod Batches
 pub mod Numbers
 pub mod Instructions
 pub mod Laws
 pub mod Lists
+pub mod Movements
 pub mod Reading
 pub mod Rules
 pub mod Words

@@ -7,10 +7,15 @@
 #![tactic(auto)]
 
 mod laws;
+mod movement;
 mod places;
 
 pub use laws::{
     elements_are_lanes, legal_readings_are_sound, other_words_stay, words_are_made,
     words_need_their_sources,
+};
+pub use movement::{
+    batches_are_all_accesses, batches_are_longest_runs, batches_need_their_words,
+    legal_movements_are_sound, loads_make_words,
 };
 pub use places::{Places, Word};
