@@ -1,7 +1,7 @@
 -- What the tokens of an instruction's statement say: its operands, and the words that it gives. The words of `li` and `la`
 -- are those of the RISC-V Assembly Programmer's Manual, pseudoinstructions; that they are never fewer or more than here is
 -- this project's own.
-use Rattle.std.specs.Prelude.{ℕ, ◌+◌, ◌^◌, ℤ, pos, ◌+ℤ◌, unsigned_abs, List, [], ◌∷◌, flat_map, Option, Some, unwrap_or, if◌then◌else◌}
+use Rattle.std.specs.Prelude.{ℕ, ◌+◌, ◌*◌, ◌^◌, false, ℤ, pos, ◌+ℤ◌, unsigned_abs, List, [], ◌∷◌, flat_map, Option, Some, unwrap_or, if◌then◌else◌}
 use Rattle.vx_base.specs.Numbers.{reduced, signed, field, little_endian}
 use Rattle.vx_decode.specs.Encoded.{word_of}
 use Rattle.vx_decode.specs.declared.instr.Instr.{Instr}
@@ -9,8 +9,10 @@ use Rattle.vx_rows.specs.declared.op.Op.TheVariants.{Scalar}
 use Rattle.vx_rows.specs.declared.op.ScalarOp.TheVariants.{Lui, Auipc, Addi, Addiw}
 use Rattle.vx_language.specs.Lexemes.{Piece, is_a}
 use Rattle.vx_language.specs.Numerals.{number_value}
-use Rattle.vx_language.specs.Names.{register_number, control_number, scalar_instr}
-use Rattle.vx_language.specs.Slots.{Slot, Rd, Rs1, Rs2, Immediate, SourceField, Offset, Label, ControlRegister, signed_range, is_within}
+use Rattle.vx_source.specs.Vtypes.{vtype_words}
+use Rattle.vx_source.specs.declared.vtype.VtypeField.{VtypeField}
+use Rattle.vx_language.specs.Names.{register_number, vector_number, vtype_number, control_number, scalar_instr}
+use Rattle.vx_language.specs.Slots.{Slot, Rd, Rs1, Rs2, Vd, Vs1, Vs2, Masked, Carry, VtypeWord, Immediate, SourceField, Offset, Label, ControlRegister, signed_range, is_within}
 use Rattle.vx_language.specs.declared.token.TokenKind.TheVariants as token
 
 -- which instructions a statement gives: the one that it names, those that load a number, or those that load an address
@@ -25,12 +27,19 @@ pub record Code : Type 0 where
   pub instr : Instr
   pub target : Option Piece
 
--- the number of a register or a control register of this name, where one has it
+-- the number of a register, a vector register or a control register of this name, where one has it
 abbrev pub register_of : Piece → ℕ
 register_of piece = unwrap_or (register_number piece.text) 0
 
+abbrev pub vector_of : Piece → ℕ
+vector_of piece = unwrap_or (vector_number piece.text) 0
+
 abbrev pub control_of : Piece → ℕ
 control_of piece = unwrap_or (control_number piece.text) 0
+
+-- what the word of a field adds to vtype
+abbrev pub vtype_part : VtypeField → Piece → ℕ
+vtype_part f piece = unwrap_or (vtype_number f piece.text) 0 * 2 ^ (vtype_words f).low
 
 abbrev pub with_immediate : ℤ → Code → Code
 with_immediate value code = record code { instr = record code.instr { imm = value } }
@@ -40,6 +49,12 @@ unfoldable pub filled : Slot → Piece → Code → Code
 filled Rd piece code = record code { instr = record code.instr { rd = register_of piece } }
 filled Rs1 piece code = record code { instr = record code.instr { rs1 = register_of piece } }
 filled Rs2 piece code = record code { instr = record code.instr { rs2 = register_of piece } }
+filled Vd piece code = record code { instr = record code.instr { rd = vector_of piece } }
+filled Vs1 piece code = record code { instr = record code.instr { rs1 = vector_of piece } }
+filled Vs2 piece code = record code { instr = record code.instr { rs2 = vector_of piece } }
+filled Masked piece code = record code { instr = record code.instr { vm = false } }
+filled Carry piece code = record code { instr = record code.instr { vm = false } }
+filled (VtypeWord f) piece code = with_immediate (code.instr.imm +ℤ pos (vtype_part f piece)) code
 filled (Immediate range) piece code = with_immediate (number_value piece.text) code
 filled (SourceField range) piece code = record code { instr = record code.instr { rs1 = unsigned_abs (number_value piece.text) } }
 filled (Offset width) piece code =

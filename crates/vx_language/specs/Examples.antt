@@ -65,7 +65,33 @@ program_examples =
     written (codes ".data\n.zero 3\n.align 2") 0x10000 [] (0 ∷ 0 ∷ 0 ∷ 0 ∷ []) 0 ∷
     []
 
+-- lines of vector instructions, and their words
+unfoldable pub vector_examples : List ProgramExample
+vector_examples =
+    written (codes "vadd.vv v1, v2, v3") 0x10000 (0xd7 ∷ 0x80 ∷ 0x21 ∷ 0x02 ∷ []) [] 0 ∷
+    -- a multiply-add has the factor in rs1 first; vm is 0
+    written (codes "vmacc.vx v1, a0, v2, v0.t") 0x10000 (0xd7 ∷ 0x60 ∷ 0x25 ∷ 0xb4 ∷ []) [] 0 ∷
+    -- vtype by its words and by its number
+    written (codes "vsetvli t0, a0, e32, m2, ta, ma") 0x10000 (0xd7 ∷ 0x72 ∷ 0x15 ∷ 0x0d ∷ []) [] 0 ∷
+    written (codes "vsetvli t0, a0, 0xd1") 0x10000 (0xd7 ∷ 0x72 ∷ 0x15 ∷ 0x0d ∷ []) [] 0 ∷
+    -- two fields: nf is 1
+    written (codes "vlseg2e8.v v2, (a0), v0.t") 0x10000 (0x07 ∷ 0x01 ∷ 0x05 ∷ 0x20 ∷ []) [] 0 ∷
+    []
+
+-- faults in lines of vector instructions
+unfoldable pub vector_fault_examples : List FaultExample
+vector_fault_examples =
+    -- the number of vadd.vi is signed
+    faulty (codes "vadd.vi v1, v2, 16") (at OutOfRange 16 18) ∷
+    faulty (codes "vsetvli t0, a0, e33, m2, ta, ma") (at BadOperand 16 19) ∷
+    -- a row without a mask
+    faulty (codes "vmv.x.s a0, v1, v0.t") (at BadOperand 14 15) ∷
+    faulty (codes "vlseg9e8.v v2, (a0)") (at UnknownName 0 10) ∷
+    []
+
 -- the definitions give what the tables say
 pub record ExamplesHold : Type 0 where
   pub faults : map (λ (e : FaultExample). first_fault e.source) fault_examples ≡ map (λ (e : FaultExample). e.fault) fault_examples
   pub programs : map (λ (e : ProgramExample). assembled e.source) program_examples ≡ map (λ (e : ProgramExample). e.program) program_examples
+  pub vector_faults : map (λ (e : FaultExample). first_fault e.source) vector_fault_examples ≡ map (λ (e : FaultExample). e.fault) vector_fault_examples
+  pub vectors : map (λ (e : ProgramExample). assembled e.source) vector_examples ≡ map (λ (e : ProgramExample). e.program) vector_examples

@@ -1,11 +1,9 @@
 -- The forms of statements: what stands behind each name, and what the statement does. This project's own; the directives
 -- are among the GNU assembler's, the pseudo-statements among those of the RISC-V Assembly Programmer's Manual.
 use Rattle.std.specs.Prelude.{ℕ, zero, suc, pos, List, [], ◌∷◌, ◌++◌, map, filter, bytes_eq, codes, Option, Some, None}
-use Rattle.vx_rows.specs.Table.{shape_of}
 use Rattle.vx_rows.specs.declared.op.Op.TheVariants.{Scalar}
 use Rattle.vx_rows.specs.declared.op.ScalarOp.TheVariants.{Jal, Jalr, Beq, Bne, Addi, Fence, Csrrs}
 use Rattle.vx_source.specs.Operands.{operand_kinds}
-use Rattle.vx_source.specs.declared.operand.OperandKind.{OperandKind}
 use Rattle.vx_decode.specs.declared.instr.Instr.{Instr}
 use Rattle.vx_language.specs.Code.{Code, Expansion, Alone, LoadsNumber, LoadsAddress}
 use Rattle.vx_language.specs.Names.{bare_instr, instr_named, scalar_instr}
@@ -82,15 +80,10 @@ pseudo_statements =
     form (codes "la") (Rd ∷ comma ∷ Label ∷ []) (loading LoadsAddress) ∷
     []
 
--- the forms of an instruction with operands of these kinds, in each of the ways to write them; a row whose operands have no
--- kinds has none
-abbrev pub forms_with : List ℕ → Instr → Option (List OperandKind) → List Form
-forms_with name i None = []
-forms_with name i (Some kinds) = map (λ slots. form name slots (alone i)) (operand_ways kinds)
-
+-- the forms of an instruction, in each of the ways to write its operands
 abbrev pub instr_forms : List ℕ → Option Instr → List Form
 instr_forms name None = []
-instr_forms name (Some i) = forms_with name i (operand_kinds (shape_of i.op))
+instr_forms name (Some i) = map (λ slots. form name slots (alone i)) (operand_ways (operand_kinds i.op))
 
 -- all forms of a name, where so many commas stand on the line; none where the name is unknown
 unfoldable pub forms_of : ℕ → List ℕ → List Form

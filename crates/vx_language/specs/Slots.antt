@@ -4,11 +4,13 @@ use Rattle.std.specs.Prelude.{ℕ, ◌-◌, ◌^◌, Bool, ◌==◌, ◌&&◌, �
 use Rattle.std.specs.List.{list_any}
 use Rattle.vx_source.specs.declared.operand.OperandKind.{OperandKind}
 use Rattle.vx_source.specs.declared.operand.OperandKind.TheVariants as operand
+use Rattle.vx_source.specs.declared.vtype.VtypeField.{VtypeField}
+use Rattle.vx_source.specs.declared.vtype.VtypeField.TheVariants as vtype
 use Rattle.vx_language.specs.Faults.{fault_at}
 use Rattle.vx_language.specs.Lexemes.{Piece, is_a}
 use Rattle.vx_language.specs.Numerals.{number_value}
 use Rattle.vx_language.specs.Lines.{is_the_mark}
-use Rattle.vx_language.specs.Names.{register_number, control_number}
+use Rattle.vx_language.specs.Names.{register_number, vector_number, vtype_number, control_number}
 use Rattle.vx_language.specs.declared.fault.Fault.{Fault}
 use Rattle.vx_language.specs.declared.fault.FaultKind.TheVariants.{OutOfRange, Undefined}
 use Rattle.vx_language.specs.declared.token.TokenKind.TheVariants as token
@@ -40,6 +42,15 @@ pub data Slot : Type 0 where
   Rd : Slot
   Rs1 : Slot
   Rs2 : Slot
+  -- the name of a vector register: the instruction's vd or vs3, vs1 or vs2
+  Vd : Slot
+  Vs1 : Slot
+  Vs2 : Slot
+  -- `v0.t`, or `v0` as an operand: the instruction's vm is 0
+  Masked : Slot
+  Carry : Slot
+  -- the word of a field of vtype: its part of the immediate
+  VtypeWord : VtypeField → Slot
   -- a number of this range: the immediate, or what stands in the place of rs1
   Immediate : Range → Slot
   SourceField : Range → Slot
@@ -59,11 +70,21 @@ pub data Slot : Type 0 where
 abbrev pub comma : Slot
 comma = Mark (codes ",")
 
+-- the token is this name
+abbrev pub is_the_name : List ℕ → Piece → Bool
+is_the_name name piece = is_a token.Name piece && bytes_eq piece.text name
+
 -- the slot takes the token
 unfoldable pub takes : Slot → Piece → Bool
 takes Rd piece = is_a token.Name piece && is_some (register_number piece.text)
 takes Rs1 piece = is_a token.Name piece && is_some (register_number piece.text)
 takes Rs2 piece = is_a token.Name piece && is_some (register_number piece.text)
+takes Vd piece = is_a token.Name piece && is_some (vector_number piece.text)
+takes Vs1 piece = is_a token.Name piece && is_some (vector_number piece.text)
+takes Vs2 piece = is_a token.Name piece && is_some (vector_number piece.text)
+takes Masked piece = is_the_name (codes "v0.t") piece
+takes Carry piece = is_the_name (codes "v0") piece
+takes (VtypeWord f) piece = is_a token.Name piece && is_some (vtype_number f piece.text)
 takes (Immediate range) piece = is_a token.Number piece
 takes (SourceField range) piece = is_a token.Number piece
 takes (Offset width) piece = is_a token.Name piece || is_a token.Number piece
@@ -107,6 +128,16 @@ ways (operand.Target width) = (Offset width ∷ []) ∷ []
 ways operand.Address = (Immediate (signed_range 12) ∷ Mark (codes "(") ∷ Rs1 ∷ Mark (codes ")") ∷ []) ∷ []
 ways operand.Control = (ControlRegister ∷ []) ∷ []
 ways operand.SourceNumber = (SourceField (unsigned_range 5) ∷ []) ∷ []
+ways operand.VectorDestination = (Vd ∷ []) ∷ []
+ways operand.FirstVector = (Vs1 ∷ []) ∷ []
+ways operand.SecondVector = (Vs2 ∷ []) ∷ []
+ways operand.Base = (Mark (codes "(") ∷ Rs1 ∷ Mark (codes ")") ∷ []) ∷ []
+ways (operand.Vtype width) =
+    (VtypeWord vtype.Sew ∷ comma ∷ VtypeWord vtype.Lmul ∷ comma ∷ VtypeWord vtype.Tail ∷ comma ∷ VtypeWord vtype.Mask ∷ [])
+    ∷ (Immediate (unsigned_range width) ∷ [])
+    ∷ []
+ways operand.Masked = [] ∷ (Masked ∷ []) ∷ []
+ways operand.Carry = (Carry ∷ []) ∷ []
 
 -- an operand that isn't left out, with a comma before it, and what stands behind it
 abbrev pub behind_comma : List Slot → List Slot → List Slot

@@ -1,5 +1,5 @@
--- The names of registers in text. The integer registers': RISC-V psABI, integer register convention. The control
--- registers': RISC-V "V" 1.0, section 3 (additional vector registers).
+-- The names of registers in text. The integer registers': RISC-V psABI, integer register convention. The vector and the
+-- control registers': RISC-V "V" 1.0, section 3 (additional vector registers).
 use Rattle.std.specs.Prelude.{ℕ, ◌==◌, List, [], ◌∷◌, codes, Option, option_map, find}
 use Rattle.std.specs.List.{slice_index_or}
 
@@ -15,6 +15,19 @@ register_names =
 -- the name of the integer register of that number, below 32
 abbrev pub register_name : ℕ → List ℕ
 register_name n = slice_index_or register_names n []
+
+-- the names of the vector registers, from v0 on
+unfoldable pub vector_names : List (List ℕ)
+vector_names =
+    codes "v0" ∷ codes "v1" ∷ codes "v2" ∷ codes "v3" ∷ codes "v4" ∷ codes "v5" ∷ codes "v6" ∷ codes "v7" ∷
+    codes "v8" ∷ codes "v9" ∷ codes "v10" ∷ codes "v11" ∷ codes "v12" ∷ codes "v13" ∷ codes "v14" ∷ codes "v15" ∷
+    codes "v16" ∷ codes "v17" ∷ codes "v18" ∷ codes "v19" ∷ codes "v20" ∷ codes "v21" ∷ codes "v22" ∷ codes "v23" ∷
+    codes "v24" ∷ codes "v25" ∷ codes "v26" ∷ codes "v27" ∷ codes "v28" ∷ codes "v29" ∷ codes "v30" ∷ codes "v31" ∷
+    []
+
+-- the name of the vector register of that number, below 32
+abbrev pub vector_name : ℕ → List ℕ
+vector_name n = slice_index_or vector_names n []
 
 -- a control register that has a name in text
 pub record NamedControl : Type 0 where

@@ -9,3 +9,4 @@ pub mod Advancing
 pub mod Judging
 pub mod Naming
 pub mod Owned
+pub mod Fields

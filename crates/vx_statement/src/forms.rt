@@ -56,7 +56,7 @@ fn push_instr(forms: &mut SmallVec<Form, 4>, name: &[u8]) -> Result<(), AllocErr
     ensures { OnOk result ((commas : ℕ) → map (form_of name.now commas) forms.new.items ≡ map (form_of name.now commas) forms.old.items ++ instr_forms name.now (instr_named name.now)) }
 {
     match instr_named(name) {
-        Some(instr) => push_ways(forms, instr_ways(instr.op.shape()), instr),
+        Some(instr) => push_ways(forms, instr_ways(instr.op), instr),
         None => Ok(()),
     }
 }

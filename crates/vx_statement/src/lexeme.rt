@@ -32,6 +32,7 @@ impl Lexeme<'_> {
     ghost use Rattle.vx_language.specs.Faults.{fault_at};
     ghost use Rattle.vx_language.specs.Lexemes.{is_a};
     ghost use Rattle.vx_language.specs.Lines.{is_the_mark};
+    ghost use Rattle.vx_language.specs.Slots.{is_the_name};
     ghost use Rattle.vx_statement.specs.Lexemes.{piece_of};
 
     /// Whether it is a token of this kind, good or bad.
@@ -53,6 +54,13 @@ impl Lexeme<'_> {
         ensures { result ≡ is_the_mark (mark ∷ []) (piece_of self.now) }
     {
         self.is_a(TokenKind::Mark) && self.text.len() == 1 && self.text[0] == mark
+    }
+
+    /// Whether it is this name.
+    pub fn is_the_name(&self, name: &str) -> bool
+        ensures { result ≡ is_the_name name.now (piece_of self.now) }
+    {
+        self.is_a(TokenKind::Name) && self.text == name.as_bytes()
     }
 
     /// A fault of this kind that names it.

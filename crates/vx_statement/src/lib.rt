@@ -25,7 +25,7 @@ pub use form::{Action, Expansion, Form, NamedForm, Section, listed_forms};
 pub use forms::forms_of;
 pub use labels::Labels;
 pub use lexeme::Lexeme;
-pub use names::{control_number, instr_named, register_number};
+pub use names::{control_number, instr_named, register_number, vector_number, vtype_number};
 pub use operands::operand_fault;
 pub use own::{own_fault, statement_forms};
 pub use range::{Range, Reach};

@@ -1,13 +1,15 @@
-ghost use Rattle.std.specs.Prelude.{◌≡◌, ◌<◌, map, find, length, position, bytes_eq, IfSome};
-ghost use Rattle.vx_rows.specs.Table.{mnemonic, operations};
+ghost use Rattle.std.specs.Prelude.{◌≡◌, ◌<◌, map, find, length, position, bytes_eq, IfSome, is_some};
+ghost use Rattle.vx_rows.specs.Layouts.{layout_of, HasFields};
+ghost use Rattle.vx_rows.specs.Table.{mnemonic, operations, shape_of};
 ghost use Rattle.vx_rows.specs.declared.op.Op.{Op};
-ghost use Rattle.vx_language.specs.Names.{numbered_names, register_number, control_number, bare_instr, instr_named};
+ghost use Rattle.vx_rows.specs.declared.row.Nf.TheVariants as nf;
+ghost use Rattle.vx_language.specs.Names.{numbered_names, register_number, vector_number, vtype_number, control_number, bare_instr, nf_named, named_instr, instr_named};
 ghost use Rattle.vx_source.specs.Names.{named_controls};
 ghost use Rattle.vx_statement.specs.Controls.{named};
 
 use vx_decode::Instr;
-use vx_rows::{Op, name_of, rows};
-use vx_source::register_names;
+use vx_rows::{Nf, Op, name_of, rows};
+use vx_source::{VtypeField, register_names, vector_names};
 
 static NUMBERED_NAMES: [&str; 32] = [
     "x0", "x1", "x2", "x3", "x4", "x5", "x6", "x7", "x8", "x9", "x10", "x11", "x12", "x13", "x14",
@@ -49,6 +51,28 @@ fn numbered_register(name: &[u8]) -> Option<u8>
 {
     match place_among(numbered_names(), name) {
         Some(number) => Some(number as u8),
+        None => None,
+    }
+}
+
+/// The number of the vector register of this name, where one has it.
+#[tactic(auto, unfolding(vx_language::specs::Names::vector_number))]
+pub fn vector_number(name: &[u8]) -> Option<u8>
+    ensures { result ≡ vector_number name.now }
+{
+    match place_among(vector_names(), name) {
+        Some(number) => Some(number as u8),
+        None => None,
+    }
+}
+
+/// The number of which this is the word in a field of vtype, where one has it.
+#[tactic(auto, unfolding(vx_language::specs::Names::vtype_number))]
+pub fn vtype_number(field: VtypeField, name: &[u8]) -> Option<u64>
+    ensures { result ≡ vtype_number field name.now }
+{
+    match place_among(field.words(), name) {
+        Some(number) => Some(number as u64),
         None => None,
     }
 }
@@ -112,16 +136,74 @@ pub fn control_number(name: &[u8]) -> Option<u16>
     }
 }
 
-/// The operation whose mnemonic this is, where one has it.
-fn operation_named(name: &[u8]) -> Option<Op>
-    ensures { result ≡ find (λ (op : Op). bytes_eq name.now (mnemonic op 0)) operations }
+/// Whether an operation has this mnemonic with a field nf.
+fn is_named(name: &[u8], op: Op, nf: u8) -> bool
+    requires { HasFields (layout_of (shape_of op)).nf nf }
+    ensures { result ≡ bytes_eq name.now (mnemonic op nf) }
 {
-    match rows()
-        .iter()
-        .find(|row| name == name_of(row.op, 0).as_bytes())
-    {
+    name == name_of(op, nf).as_bytes()
+}
+
+/// The field nf, of those of whole-register rows, with which an operation has this mnemonic.
+fn registers_named(name: &[u8], op: Op) -> Option<u8>
+    requires { (layout_of (shape_of op)).nf ≡ nf.Registers }
+    ensures { result ≡ nf_named name.now op }
+{
+    if is_named(name, op, 0) {
+        return Some(0);
+    }
+    if is_named(name, op, 1) {
+        return Some(1);
+    }
+    if is_named(name, op, 3) {
+        return Some(3);
+    }
+    if is_named(name, op, 7) { Some(7) } else { None }
+}
+
+/// The field nf, of those of segments, with which an operation has this mnemonic.
+fn fields_named(name: &[u8], op: Op) -> Option<u8>
+    requires { (layout_of (shape_of op)).nf ≡ nf.Any }
+    ensures { result ≡ nf_named name.now op }
+{
+    let mut nf = 0u8;
+    while nf < 8 {
+        if is_named(name, op, nf) {
+            return Some(nf);
+        }
+        nf += 1;
+    }
+    None
+}
+
+/// The field nf with which an operation has this mnemonic, where it has it.
+fn nf_named(name: &[u8], op: Op) -> Option<u8>
+    ensures { result ≡ nf_named name.now op }
+{
+    match op.shape().layout().nf {
+        Nf::Absent => if is_named(name, op, 0) { Some(0) } else { None },
+        Nf::Any => fields_named(name, op),
+        Nf::Registers => registers_named(name, op),
+    }
+}
+
+/// The operation that has this mnemonic, where one has it.
+fn operation_named(name: &[u8]) -> Option<Op>
+    ensures { result ≡ find (λ (op : Op). is_some (nf_named name.now op)) operations }
+{
+    match rows().iter().find(|row| nf_named(name, row.op).is_some()) {
         Some(row) => Some(row.op),
         None => None,
+    }
+}
+
+/// The instruction, without operands yet, of an operation of this mnemonic.
+fn named_instr(name: &[u8], op: Op) -> Instr
+    ensures { result ≡ named_instr name.now op }
+{
+    Instr {
+        nf: nf_named(name, op).unwrap_or(0),
+        ..bare(op)
     }
 }
 
@@ -131,7 +213,7 @@ pub fn instr_named(name: &[u8]) -> Option<Instr>
     ensures { result ≡ instr_named name.now }
 {
     match operation_named(name) {
-        Some(op) => Some(bare(op)),
+        Some(op) => Some(named_instr(name, op)),
         None => None,
     }
 }

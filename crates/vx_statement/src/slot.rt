@@ -8,9 +8,10 @@ ghost use Rattle.vx_statement.specs.Slots.{slot_of};
 
 use crate::labels::Labels;
 use crate::lexeme::Lexeme;
-use crate::names::{control_number, register_number};
+use crate::names::{control_number, register_number, vector_number, vtype_number};
 use crate::range::{Range, Reach};
 use vx_language::{Fault, FaultKind, TokenKind};
+use vx_source::VtypeField;
 
 /// The place of one token behind a statement's name.
 #[derive(Clone, Copy, PartialEq, Eq, Debug)]
@@ -21,6 +22,18 @@ pub enum Slot {
     Rs1,
     /// An integer register: `rs2`.
     Rs2,
+    /// A vector register: `vd` or `vs3`.
+    Vd,
+    /// A vector register: `vs1`.
+    Vs1,
+    /// A vector register: `vs2`.
+    Vs2,
+    /// `v0.t`: the instruction is masked.
+    Masked,
+    /// `v0`, which the instruction reads as an operand.
+    Carry,
+    /// The word of a field of vtype: its part of the immediate.
+    VtypeWord(VtypeField),
     /// A number: the immediate.
     Immediate(Range),
     /// A number in the place of `rs1`.
@@ -51,6 +64,14 @@ impl Slot {
             Slot::Rd | Slot::Rs1 | Slot::Rs2 => {
                 token.is_a(TokenKind::Name) && register_number(token.text).is_some()
             }
+            Slot::Vd | Slot::Vs1 | Slot::Vs2 => {
+                token.is_a(TokenKind::Name) && vector_number(token.text).is_some()
+            }
+            Slot::Masked => token.is_the_name("v0.t"),
+            Slot::Carry => token.is_the_name("v0"),
+            Slot::VtypeWord(field) => {
+                token.is_a(TokenKind::Name) && vtype_number(field, token.text).is_some()
+            }
             Slot::Immediate(_) | Slot::SourceField(_) | Slot::Datum(_) => {
                 token.is_a(TokenKind::Number)
             }
@@ -77,7 +98,9 @@ impl Slot {
             Slot::Offset(reach) => offset_fault(reach, token, labels),
             Slot::Label => label_fault(token, labels),
             Slot::ControlRegister => control_fault(token),
-            Slot::Rd | Slot::Rs1 | Slot::Rs2 | Slot::Text | Slot::Symbol | Slot::Mark(_) => None,
+            Slot::Rd | Slot::Rs1 | Slot::Rs2 | Slot::Vd | Slot::Vs1 | Slot::Vs2 => None,
+            Slot::Masked | Slot::Carry | Slot::VtypeWord(_) => None,
+            Slot::Text | Slot::Symbol | Slot::Mark(_) => None,
         }
     }
 }
