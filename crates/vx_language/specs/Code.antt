@@ -37,7 +37,7 @@ vector_of piece = unwrap_or (vector_number piece.text) 0
 abbrev pub control_of : Piece → ℕ
 control_of piece = unwrap_or (control_number piece.text) 0
 
--- what the word of a field adds to vtype
+-- what the word of a field adds to the 8 bits of vtype
 abbrev pub vtype_part : VtypeField → Piece → ℕ
 vtype_part f piece = unwrap_or (vtype_number f piece.text) 0 * 2 ^ (vtype_words f).low
 
@@ -54,7 +54,7 @@ filled Vs1 piece code = record code { instr = record code.instr { rs1 = vector_o
 filled Vs2 piece code = record code { instr = record code.instr { rs2 = vector_of piece } }
 filled Masked piece code = record code { instr = record code.instr { vm = false } }
 filled Carry piece code = record code { instr = record code.instr { vm = false } }
-filled (VtypeWord f) piece code = with_immediate (code.instr.imm +ℤ pos (vtype_part f piece)) code
+filled (VtypeWord f) piece code = with_immediate (pos (reduced 8 (code.instr.imm +ℤ pos (vtype_part f piece)))) code
 filled (Immediate range) piece code = with_immediate (number_value piece.text) code
 filled (SourceField range) piece code = record code { instr = record code.instr { rs1 = unsigned_abs (number_value piece.text) } }
 filled (Offset width) piece code =
