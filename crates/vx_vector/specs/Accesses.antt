@@ -8,7 +8,7 @@ use Rattle.vx_rows.specs.declared.row.Eew.{Eew}
 use Rattle.vx_vstate.specs.Groups.{registers_of_group}
 use Rattle.vx_decode.specs.Groups.{bits_of_eew, moved}
 use Rattle.vx_decode.specs.declared.instr.Instr.{Instr}
-use Rattle.vx_vstate.specs.Registers.{element}
+use Rattle.vx_vstate.specs.Registers.{element, with_element}
 use Rattle.vx_vstate.specs.State.{SettingView}
 use Rattle.vx_vector.specs.Numbers.{is_set}
 
@@ -21,6 +21,14 @@ pub record Access : Type 0 where
   pub width : ℕ
   pub register : ℕ
   pub byte : ℕ
+
+-- the registers with what an access loaded at its place
+abbrev pub with_loaded : (vlen : ℕ) → List ℕ → Access → (value : ℕ) → List ℕ
+with_loaded vlen words a value = with_element vlen words a.register (8 * a.width) (a.byte / a.width) value
+
+-- what an access stores
+abbrev pub value_stored : (vlen : ℕ) → List ℕ → Access → ℕ
+value_stored vlen words a = element vlen words a.register (8 * a.width) (a.byte / a.width)
 
 -- a vector load or store, with what it reads of registers
 pub record Movement : Type 0 where
