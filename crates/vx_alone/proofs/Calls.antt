@@ -1,5 +1,5 @@
 -- What a step does, by what stands at the pc; what asks for a service is an ecall.
-use Rattle.std.proofs.Common.{◌≡◌, ℕ, Bool, Option, None, Some, true, false, if◌then◌else◌, refl, sym, ap, ◌∙◌}
+use Rattle.std.proofs.Common.{◌≡◌, ℕ, Bool, Option, None, Some, true, false, ◌&&◌, if◌then◌else◌, refl, sym, ap, ◌∙◌}
 use Rattle.std.proofs.lemmas.Bool.{false≢true}
 use Rattle.vx_decode.specs.declared.instr.Instr.{Instr}
 use Rattle.vx_rows.specs.Table.{class_of}
@@ -10,7 +10,8 @@ use Rattle.vx_flat.specs.State.{Flat}
 use Rattle.vx_base.specs.declared.machine.Want.TheVariants.{Fetch}
 use Rattle.vx_decode.specs.Decoded.{decoded}
 use Rattle.vx_flat.specs.Memory.{permits}
-use Rattle.vx_flat.specs.Step.{upcoming, meaning, is_executed, performed, performed_as, faulted, ecall, step, word_at_pc}
+use Rattle.vx_flat.specs.Outcome.{faulted}
+use Rattle.vx_flat.specs.Step.{upcoming, meaning, is_executed, is_legal, is_legal_as, performed, performed_as, ecall, step, word_at_pc}
 use Rattle.vx_flat.specs.declared.end.End.{End}
 use Rattle.vx_flat.specs.declared.upcoming.Upcoming.{Upcoming}
 use Rattle.vx_flat.specs.declared.upcoming.Upcoming.TheVariants.{Denied, Illegal, Instruction}
@@ -38,7 +39,7 @@ pub upcoming-denied : (s : Flat) → permits s.memory s.pc Fetch ≡ false → u
 unfolding upcoming
 upcoming-denied s e = rw e refl
 
-pub upcoming-word : (s : Flat) (word : ℕ) (o : Option Instr) → permits s.memory s.pc Fetch ≡ true → word ≡ word_at_pc s → o ≡ decoded word → upcoming s ≡ meaning word o
+pub upcoming-word : (s : Flat) (word : ℕ) (o : Option Instr) → permits s.memory s.pc Fetch ≡ true → word ≡ word_at_pc s → o ≡ decoded word → upcoming s ≡ meaning s word o
 unfolding upcoming
 upcoming-word s word o e at is = rw (e, is, at) refl
 
@@ -46,15 +47,18 @@ upcoming-word s word o e at is = rw (e, is, at) refl
 pub performed-stepped : (p : Process) (u : Upcoming) → p.over ≡ None → upcoming p.state ≡ u → after p (performed p.state u) ≡ stepped p
 performed-stepped p u running e = sym (stepped-is p running ∙ ap (λ (v : Upcoming). after p (performed p.state v)) e)
 
--- an instruction that is executed, and one that isn't
-meaning-as : (b : Bool) (word : ℕ) (i : Instr) → is_executed (class_of i.op) ≡ b → meaning word (Some i) ≡ (if b then Instruction i else Illegal word)
-meaning-as b word i e = ap (λ (a : Bool). if a then Instruction i else Illegal word) e
+-- an instruction that is legal, and one that isn't
+meaning-as : (b : Bool) (s : Flat) (word : ℕ) (i : Instr) → is_legal s i ≡ b → meaning s word (Some i) ≡ (if b then Instruction i else Illegal word)
+meaning-as b s word i e = ap (λ (a : Bool). if a then Instruction i else Illegal word) e
 
-pub meaning-executed : (word : ℕ) (i : Instr) (c : Class) → c ≡ class_of i.op → is_executed c ≡ true → meaning word (Some i) ≡ Instruction i
-meaning-executed word i c is e = meaning-as true word i (ap is_executed (sym is) ∙ e)
+is_legal-by : (s : Flat) (i : Instr) (c : Class) → c ≡ class_of i.op → (is_executed s.vectors_enabled c && is_legal_as c s i) ≡ is_legal s i
+is_legal-by s i c is = ap (λ (k : Class). is_executed s.vectors_enabled k && is_legal_as k s i) is
 
-pub meaning-refused : (word : ℕ) (i : Instr) (c : Class) → c ≡ class_of i.op → is_executed c ≡ false → meaning word (Some i) ≡ Illegal word
-meaning-refused word i c is e = meaning-as false word i (ap is_executed (sym is) ∙ e)
+pub meaning-legal : (s : Flat) (word : ℕ) (i : Instr) (c : Class) → c ≡ class_of i.op → (is_executed s.vectors_enabled c && is_legal_as c s i) ≡ true → meaning s word (Some i) ≡ Instruction i
+meaning-legal s word i c is e = meaning-as true s word i (sym (is_legal-by s i c is) ∙ e)
+
+pub meaning-illegal : (s : Flat) (word : ℕ) (i : Instr) (c : Class) → c ≡ class_of i.op → (is_executed s.vectors_enabled c && is_legal_as c s i) ≡ false → meaning s word (Some i) ≡ Illegal word
+meaning-illegal s word i c is e = meaning-as false s word i (sym (is_legal-by s i c is) ∙ e)
 
 pub performed-denied : (s : Flat) → performed s Denied ≡ faulted s 12 s.pc
 unfolding performed

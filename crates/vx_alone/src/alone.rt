@@ -1,34 +1,41 @@
-ghost use Rattle.std.specs.Prelude.{◌≡◌, ◌==◌, ◌<◌, ◌≤◌, ◌%◌, ◌^◌, ◌++◌, length, true, false, Some, None, IfOk, IsTrue};
+ghost use Rattle.std.specs.Prelude.{◌≡◌, ◌==◌, ◌<◌, ◌≤◌, ◌%◌, ◌^◌, ◌++◌, ◌&&◌, length, true, false, is_some, Some, None, IfOk, IsTrue};
 ghost use Rattle.vx_alone.specs.Asking.{asks, class_next, is_service, is_service_class};
 ghost use Rattle.vx_alone.specs.Turns.{turn_of};
 ghost use Rattle.vx_flat.specs.Process.{after, begun, stepped};
 ghost use Rattle.vx_alone.specs.Operands.{IsAligned};
 ghost use Rattle.vx_base.specs.Numbers.{signed};
+ghost use Rattle.vx_base.specs.Options.{is_register_length};
 ghost use Rattle.vx_decode.specs.Encoded.{IsValid};
 ghost use Rattle.vx_flat.specs.Service.{service, answered, write};
 ghost use Rattle.vx_flat.specs.State.{following, register};
-ghost use Rattle.vx_flat.specs.Step.{meaning, is_executed, upcoming, performed, performed_as, affect, affected, refused, load, load_from, store, store_at, ecall, faulted};
-ghost use Rattle.vx_flat.specs.Step.Outcome.{Next, Exited};
+ghost use Rattle.vx_flat.specs.Outcome.{faulted};
+ghost use Rattle.vx_flat.specs.Outcome.Outcome.{Next, Exited};
+ghost use Rattle.vx_flat.specs.Step.{meaning, is_executed, is_legal_as, upcoming, performed, performed_as, affect, affected, load, load_from, store, store_at, ecall, exchange_at, control_by, configure};
 ghost use Rattle.vx_scalar.specs.Operands.{NamesRegisters, is_access_width};
 
 use crate::arch::Arch;
 use crate::asking::asks;
 use crate::memory::Memory;
+use crate::operands::{change_in, control_number, operand_of, source_in, vtype_of};
 use crate::service::write;
 use crate::turn::Turn;
+use crate::vectors::{exchange, length_asked};
 use std::alloc::{AllocError, Global};
 use std::marker::Model;
 use vx_base::Fault;
-use vx_decode::{Instr, Known, KnownWords, decoded_is_valid, encode};
-use vx_flat::{Effect, End};
+use vx_decode::{Instr, Known, KnownWords, decoded_is_valid};
+use vx_flat::{Effect, End, Hart};
 use vx_image::Image;
 use vx_rows::Class;
 use vx_scalar::{Regs, access_width, loaded, scalar, scalar_address};
+use vx_vstate::VState;
 
 /// The flat machine: one process alone, an instruction at a time. It takes all its memory at boot.
 #[derive(Debug, Drop)]
 pub struct Alone {
     arch: Arch,
+    /// The hart's vector instructions are enabled.
+    vectors_enabled: bool,
     memory: Memory,
     words: KnownWords,
     output: Vec<u8>,
@@ -43,7 +50,14 @@ impl Model for Alone {
     ghost Value = { Process };
 
     ghost view = { λ m. record {
-      state = record { pc = m.arch.pc; x = m.arch.regs.x; memory = m.memory; output = m.output.items };
+      state = record {
+        pc = m.arch.pc;
+        x = m.arch.regs.x;
+        v = m.arch.v;
+        vectors_enabled = m.vectors_enabled;
+        memory = m.memory;
+        output = m.output.items;
+      };
       count = m.count;
       over = m.over;
     } };
@@ -52,17 +66,33 @@ impl Model for Alone {
 }
 
 impl Alone {
-    /// The machine of an image before its first instruction. It takes all the memory of the run here.
+    /// The machine of an image before its first instruction, with vector registers of `vlen` bits. It takes all the memory of
+    /// the run here.
+    pub fn boot(alloc: Global, image: &Image, vlen: u32) -> Result<Alone, AllocError>
+        requires { IsTrue (is_register_length vlen) }
+        ensures { IfOk result (λ m. m ≡ begun (record { vlen = vlen; vectors_enabled = true }) image.now) }
+    {
+        let hart = Hart {
+            vlen,
+            vectors_enabled: true,
+        };
+        Alone::boot_on(alloc, image, hart)
+    }
+
+    /// The same on a hart, whose vector instructions may not be enabled.
     #[tactic(auto, unfolding(vx_flat::specs::Boot::booted))]
-    pub fn boot(alloc: Global, image: &Image) -> Result<Alone, AllocError>
-        ensures { IfOk result (λ m. m ≡ begun image.now) }
+    pub fn boot_on(alloc: Global, image: &Image, hart: Hart) -> Result<Alone, AllocError>
+        requires { IsTrue (is_register_length hart.vlen) }
+        ensures { IfOk result (λ m. m ≡ begun hart image.now) }
     {
         let arch = Arch {
             regs: Regs::first(),
             pc: image.entry(),
+            v: VState::new(alloc, hart.vlen)?,
         };
         Ok(Alone {
             arch,
+            vectors_enabled: hart.vectors_enabled,
             memory: Memory::of(alloc, image)?,
             words: KnownWords::new(alloc)?,
             output: Vec::with_capacity(alloc, 1 << 20)?,
@@ -96,12 +126,11 @@ impl Alone {
     fn advance_by(&mut self, word: u32, known: Known) -> Option<Class>
         requires running { self.old.over ≡ None }
         requires valid { IsValid known.instr }
-        ensures class { result ≡ class_next (meaning word (Some known.instr)) }
+        ensures class { result ≡ class_next (meaning self.old.state word (Some known.instr)) }
         ensures waits { asks result ≡ true → self.new ≡ self.old }
-        ensures performed { asks result ≡ false → self.new ≡ after self.old (performed self.old.state (meaning word (Some known.instr))) }
+        ensures performed { asks result ≡ false → self.new ≡ after self.old (performed self.old.state (meaning self.old.state word (Some known.instr))) }
     {
-        if is_executed(known.class) {
-            self.execute(known.class, known.instr);
+        if self.execute(known.class, known.instr) {
             return Some(known.class);
         }
         self.fault(2, u64::from(word));
@@ -140,10 +169,11 @@ impl Alone {
         self.turn()
     }
 
-    /// The registers and the pc.
+    /// The registers, the pc and the vector state.
     pub fn arch(&self) -> &Arch
         ensures pc { result.now.pc ≡ self.now.state.pc }
         ensures registers { result.now.regs.x ≡ self.now.state.x }
+        ensures vectors { result.now.v ≡ self.now.state.v }
     {
         &self.arch
     }
@@ -181,33 +211,84 @@ impl Alone {
         }
     }
 
-    /// Does an instruction of a class, unless it asks for a service.
+    /// Does an instruction of a class, unless it asks for a service. Answers whether it is legal; one that isn't changes nothing.
     #[tactic(auto, using(crate::proofs::Performable::names_registers))]
-    fn execute(&mut self, class: Class, i: Instr)
+    fn execute(&mut self, class: Class, i: Instr) -> bool
         requires running { self.old.over ≡ None }
         requires valid { IsValid i }
+        ensures legal { result ≡ (is_executed self.old.state.vectors_enabled class && is_legal_as class self.old.state i) }
+        ensures illegal { result ≡ false → self.new ≡ self.old }
         ensures waits { is_service_class class ≡ true → self.new ≡ self.old }
-        ensures performed { is_service_class class ≡ false → self.new ≡ after self.old (performed_as class self.old.state i) }
+        ensures performed { result ≡ true → is_service_class class ≡ false → self.new ≡ after self.old (performed_as class self.old.state i) }
     {
         match class {
-            Class::Arithmetic | Class::Multiply | Class::Divide => self.affect(i),
-            Class::Jump | Class::Branch | Class::Fence => self.affect(i),
-            Class::Load => self.load(i),
-            Class::Store => self.store(i),
-            Class::Ecall => {}
-            Class::Ebreak => self.fault(3, 0),
-            Class::Csr | Class::Set => self.refuse(i),
-            Class::VectorArithmetic(_) => self.refuse(i),
-            Class::VectorLoad(_, _) | Class::VectorStore(_, _) => self.refuse(i),
+            Class::Arithmetic | Class::Multiply | Class::Divide => {
+                self.affect(i);
+                true
+            }
+            Class::Jump | Class::Branch | Class::Fence => {
+                self.affect(i);
+                true
+            }
+            Class::Load => {
+                self.load(i);
+                true
+            }
+            Class::Store => {
+                self.store(i);
+                true
+            }
+            Class::Ecall => true,
+            Class::Ebreak => {
+                self.fault(3, 0);
+                true
+            }
+            Class::Csr => self.control(i),
+            Class::Set => self.configure(i),
+            Class::VectorArithmetic(_) => false,
+            Class::VectorLoad(_, _) | Class::VectorStore(_, _) => false,
         }
     }
 
-    /// Ends at an instruction that isn't executed.
-    fn refuse(&mut self, i: Instr)
-        requires valid { IsValid i }
-        ensures { self.new ≡ after self.old (refused self.old.state i) }
+    /// Reads and changes a control register where vectors are enabled, and answers whether that is legal; where it isn't, nothing
+    /// changes.
+    fn control(&mut self, i: Instr) -> bool
+        requires running { self.old.over ≡ None }
+        requires registers { NamesRegisters i }
+        ensures legal { result ≡ (self.old.state.vectors_enabled && is_some (exchange_at self.old.state i)) }
+        ensures illegal { result ≡ false → self.new ≡ self.old }
+        ensures performed { result ≡ true → self.new ≡ after self.old (control_by (exchange_at self.old.state i) self.old.state i) }
     {
-        self.fault(2, u64::from(encode(&i)));
+        if !self.vectors_enabled {
+            return false;
+        }
+        let operand = operand_of(&i, &self.arch.regs);
+        let number = control_number(&i);
+        let Some(read) = exchange(&mut self.arch.v, number, change_in(i.op), i.rs1, operand) else {
+            return false;
+        };
+        self.arch.regs.write(i.rd, read);
+        self.complete();
+        true
+    }
+
+    /// Configures vectors where they are enabled, and answers whether they are; where they aren't, nothing changes.
+    fn configure(&mut self, i: Instr) -> bool
+        requires running { self.old.over ≡ None }
+        requires registers { NamesRegisters i }
+        ensures legal { result ≡ self.old.state.vectors_enabled }
+        ensures illegal { result ≡ false → self.new ≡ self.old }
+        ensures performed { result ≡ true → self.new ≡ after self.old (configure self.old.state i) }
+    {
+        if !self.vectors_enabled {
+            return false;
+        }
+        let operand = operand_of(&i, &self.arch.regs);
+        let avl = length_asked(source_in(i.op), i.rd, i.rs1, operand);
+        let vl = self.arch.v.set_vl(avl, vtype_of(&i, &self.arch.regs));
+        self.arch.regs.write(i.rd, vl);
+        self.complete();
+        true
     }
 
     /// Does an instruction that touches no memory.
@@ -372,7 +453,7 @@ impl Alone {
         self.over = Some(End::Faulted(Fault {
             cause,
             tval,
-            vstart: 0,
+            vstart: self.arch.v.vstart(),
         }));
     }
 }
@@ -388,17 +469,5 @@ fn is_aligned(address: u64, width: u64) -> bool
         4 => address % 4 == 0,
         8 => address % 8 == 0,
         _ => address % width == 0,
-    }
-}
-
-/// Whether the machine executes the rows of a class.
-fn is_executed(class: Class) -> bool
-    ensures { result ≡ is_executed class }
-{
-    match class {
-        Class::Arithmetic | Class::Multiply | Class::Divide | Class::Jump | Class::Branch => true,
-        Class::Load | Class::Store | Class::Fence | Class::Ecall | Class::Ebreak => true,
-        Class::Csr | Class::Set | Class::VectorArithmetic(_) => false,
-        Class::VectorLoad(_, _) | Class::VectorStore(_, _) => false,
     }
 }

@@ -1,7 +1,7 @@
 //! The flat machine as a program: one process alone, an instruction at a time, on memory by page.
 //!
-//! It stands on the images of `vx_image`, on `vx_decode`, on the effects of `vx_scalar` and on the definitions of `vx_flat`,
-//! which it computes plainly. To the crates above it gives `Alone`: its boot is the boot of the image, each of its steps is
+//! It stands on the images of `vx_image`, on `vx_decode`, on the vector state of `vx_vstate`, on the effects of `vx_scalar` and on
+//! the definitions of `vx_flat`, which it computes plainly. To the crates above it gives `Alone`: its boot is the boot of the image on its hart, each of its steps is
 //! the flat step, and it takes no memory after boot.
 #![tactic(auto)]
 
@@ -9,12 +9,14 @@ mod alone;
 mod arch;
 mod asking;
 mod memory;
+mod operands;
 mod service;
 mod turn;
+mod vectors;
 
 pub use alone::Alone;
 pub use arch::Arch;
 pub use asking::asks;
 pub use turn::Turn;
-pub use vx_flat::{End, Upcoming};
+pub use vx_flat::{End, Hart, Upcoming};
 pub use vx_scalar::Regs;

@@ -14,7 +14,9 @@ use Rattle.vx_rows.specs.declared.op.MaskOp.TheVariants.{VredsumVs}
 use Rattle.vx_rows.specs.declared.op.PermOp.TheVariants.{VrgatherVv}
 use Rattle.vx_rows.specs.declared.op.MemoryOp.TheVariants.{Vle8}
 use Rattle.vx_flat.specs.Classes.{Does}
-use Rattle.vx_flat.specs.Scalar.{work, scalar_work, extended, upper, is_less, truth, even, whole, sign_extended}
+use Rattle.vx_flat.specs.Scalar.{work, scalar_work, length_source, vtype_source, extended, upper, is_less, truth, even, whole, sign_extended}
+use Rattle.vx_flat.specs.declared.control.Change.TheVariants.{Replace, SetBits, ClearBits}
+use Rattle.vx_flat.specs.declared.control.Source.TheVariants.{Register, Immediate}
 
 scalar_does : (op : ScalarOp) (pc a b n : ℕ) → Does (class_of (Scalar op)) pc (scalar_work op pc a b n)
 scalar_does Lui pc a b n = (upper n, refl)
@@ -82,17 +84,17 @@ scalar_does Remuw pc a b n = (extended (unsigned_remainder_at 32 a b), refl)
 scalar_does Fence pc a b n = refl
 scalar_does Ecall pc a b n = refl
 scalar_does Ebreak pc a b n = refl
-scalar_does Csrrw pc a b n = refl
-scalar_does Csrrs pc a b n = refl
-scalar_does Csrrc pc a b n = refl
-scalar_does Csrrwi pc a b n = refl
-scalar_does Csrrsi pc a b n = refl
-scalar_does Csrrci pc a b n = refl
+scalar_does Csrrw pc a b n = (Register, Replace, refl)
+scalar_does Csrrs pc a b n = (Register, SetBits, refl)
+scalar_does Csrrc pc a b n = (Register, ClearBits, refl)
+scalar_does Csrrwi pc a b n = (Immediate, Replace, refl)
+scalar_does Csrrsi pc a b n = (Immediate, SetBits, refl)
+scalar_does Csrrci pc a b n = (Immediate, ClearBits, refl)
 
 pub does : (op : Op) (pc a b n : ℕ) → Does (class_of op) pc (work op pc a b n)
 does (Scalar op) pc a b n = scalar_does op pc a b n
-does (Set Vsetvli) pc a b n = refl
-does (Set op) pc a b n = refl
+does (Set Vsetvli) pc a b n = (length_source Vsetvli, vtype_source Vsetvli, refl)
+does (Set op) pc a b n = (length_source op, vtype_source op, refl)
 does (Elem VaddVv) pc a b n = refl
 does (Elem op) pc a b n = refl
 does (Widen VadcVvm) pc a b n = refl

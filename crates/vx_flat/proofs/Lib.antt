@@ -1,2 +1,4 @@
 pub mod Classes
+pub mod Continues
+pub mod Enabled
 pub mod Grows

@@ -1,11 +1,11 @@
--- The accesses of loads and stores: RISC-V Unprivileged ISA 20191213, sections 2.6 and 5.3.
+-- The accesses of scalar loads and stores: RISC-V Unprivileged ISA 20191213, sections 2.6 and 5.3.
 use Rattle.std.specs.Prelude.{ℕ, List, slice_index}
 use Rattle.vx_base.specs.Numbers.{reduced}
 use Rattle.vx_bits.specs.Arithmetic.{sum_at}
 use Rattle.vx_decode.specs.declared.instr.Instr.{Instr}
 use Rattle.vx_rows.specs.declared.op.Op.{Op}
 use Rattle.vx_flat.specs.Scalar.{Work, work}
-use Rattle.vx_flat.specs.Scalar.Work.{Acts, Loads, Stores, Asks, Breaks, Controls, Vectors}
+use Rattle.vx_flat.specs.Scalar.Work.{Acts, Loads, Stores, Asks, Breaks, Controls, Configures, Vectors}
 
 -- the address, of the registers
 abbrev pub access_address : Instr → (x : List ℕ) → ℕ
@@ -18,7 +18,8 @@ width_of (Stores width) = width
 width_of (Acts effect) = 1
 width_of Asks = 1
 width_of Breaks = 1
-width_of Controls = 1
+width_of (Controls operand change) = 1
+width_of (Configures length vtype) = 1
 width_of Vectors = 1
 
 abbrev pub access_width : Op → ℕ
@@ -31,7 +32,8 @@ value_of (Stores width) n = n
 value_of (Acts effect) n = n
 value_of Asks n = n
 value_of Breaks n = n
-value_of Controls n = n
+value_of (Controls operand change) n = n
+value_of (Configures length vtype) n = n
 value_of Vectors n = n
 
 abbrev pub loaded : Op → (n : ℕ) → ℕ

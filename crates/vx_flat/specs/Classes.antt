@@ -3,7 +3,9 @@ use Rattle.std.specs.Prelude.{◌≡◌, ℕ, Bool}
 use Rattle.vx_rows.specs.declared.row.Class.{Class}
 use Rattle.vx_rows.specs.declared.row.Class.TheVariants as class
 use Rattle.vx_flat.specs.Scalar.{Work, put, jumped, branched, next_pc}
-use Rattle.vx_flat.specs.Scalar.Work.{Acts, Loads, Stores, Asks, Breaks, Controls, Vectors}
+use Rattle.vx_flat.specs.Scalar.Work.{Acts, Loads, Stores, Asks, Breaks, Controls, Configures, Vectors}
+use Rattle.vx_flat.specs.declared.control.Change.{Change}
+use Rattle.vx_flat.specs.declared.control.Source.{Source}
 use Rattle.vx_flat.specs.declared.effect.Effect.TheVariants.{Next}
 
 -- the work, at a pc, is one of the class
@@ -18,8 +20,8 @@ Does class.Store pc w = (width : ℕ) × (w ≡ Stores width)
 Does class.Fence pc w = w ≡ Acts (Next (next_pc pc))
 Does class.Ecall pc w = w ≡ Asks
 Does class.Ebreak pc w = w ≡ Breaks
-Does class.Csr pc w = w ≡ Controls
-Does class.Set pc w = w ≡ Vectors
+Does class.Csr pc w = (operand : Source) × (change : Change) × (w ≡ Controls operand change)
+Does class.Set pc w = (length : Source) × (vtype : Source) × (w ≡ Configures length vtype)
 Does (class.VectorArithmetic family) pc w = w ≡ Vectors
 Does (class.VectorLoad addressing width) pc w = w ≡ Vectors
 Does (class.VectorStore addressing width) pc w = w ≡ Vectors

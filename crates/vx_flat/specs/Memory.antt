@@ -2,6 +2,7 @@
 -- 2 ^ 64, and an access that passes the last wraps.
 use Rattle.std.specs.Prelude.{ℕ, zero, suc, ◌+◌, ◌-◌, ◌/◌, ◌%◌, ◌^◌, Bool, true, false, ◌==◌, ◌&&◌, ◌||◌, List, [], ◌∷◌, map, if◌then◌else◌, slice_index, slice_set}
 use Rattle.std.specs.Option.{option_map_or}
+use Rattle.vx_base.specs.Numbers.{little_endian, from_little_endian}
 use Rattle.vx_base.specs.Permissions.{grants}
 use Rattle.vx_base.specs.declared.machine.Want.{Want}
 use Rattle.vx_image.specs.Pages.{MappedPage, Memory, page_numbered}
@@ -53,3 +54,10 @@ put_byte memory address byte = map (with_byte (page_of address) (offset_of addre
 abbrev pub put_bytes : Memory → ℕ → List ℕ → Memory
 put_bytes memory address [] = memory
 put_bytes memory address (byte ∷ bytes) = put_bytes (put_byte memory address byte) (next_address address) bytes
+
+-- the number that so many bytes from an address on are, least first; and the memory with the low bytes of a number there
+abbrev pub number_at : Memory → (address width : ℕ) → ℕ
+number_at memory address width = from_little_endian (bytes_at memory address width)
+
+abbrev pub put_number : Memory → (address width value : ℕ) → Memory
+put_number memory address width value = put_bytes memory address (little_endian width value)

@@ -3,11 +3,13 @@ use Rattle.std.specs.Prelude.{ℕ, zero, suc, Option, Some, None}
 use Rattle.vx_base.specs.Faults.{one_more}
 use Rattle.vx_image.specs.Pages.{Image}
 use Rattle.vx_flat.specs.Boot.{booted}
+use Rattle.vx_flat.specs.Outcome.{Outcome}
+use Rattle.vx_flat.specs.Outcome.Outcome.{Next, Exited, Faulted}
 use Rattle.vx_flat.specs.State.{Flat}
-use Rattle.vx_flat.specs.Step.{Outcome, step}
-use Rattle.vx_flat.specs.Step.Outcome.{Next, Exited, Faulted}
+use Rattle.vx_flat.specs.Step.{step}
 use Rattle.vx_flat.specs.declared.end.End.{End}
 use Rattle.vx_flat.specs.declared.end.End.TheVariants as end
+use Rattle.vx_flat.specs.declared.hart.Hart.{Hart}
 
 pub record Process : Type 0 where
   pub state : Flat
@@ -16,9 +18,9 @@ pub record Process : Type 0 where
   -- how it ended, where it has
   pub over : Option End
 
--- the process of an image before its first step
-abbrev pub begun : Image → Process
-begun image = record { state = booted image; count = 0; over = None }
+-- the process of an image on a hart, before its first step
+abbrev pub begun : Hart → Image → Process
+begun hart image = record { state = booted hart image; count = 0; over = None }
 
 -- the process after an outcome of its step; an exiting instruction completes, a faulting one doesn't
 abbrev pub after : Process → Outcome → Process

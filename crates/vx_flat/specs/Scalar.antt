@@ -1,6 +1,7 @@
--- What the operations of RV64IM do: RISC-V Unprivileged ISA 20191213, chapters 2 and 5 (RV32I and RV64I) and 7 (M). In
--- what follows a and b are the numbers in rs1 and rs2, and n is the immediate, each a number of 64 bits. The operations
--- whose names end in w compute at 32 bits, and sign-extend what they compute.
+-- What the operations of RV64IM and Zicsr do: RISC-V Unprivileged ISA 20191213, chapters 2 and 5 (RV32I and RV64I), 7 (M) and
+-- 9 (Zicsr); and what those that configure vectors ask for: RISC-V "V" 1.0, section 6. In what follows a and b are the numbers in
+-- rs1 and rs2, and n is the immediate, each a number of 64 bits. The operations whose names end in w compute at 32 bits, and
+-- sign-extend what they compute.
 use Rattle.std.specs.Prelude.{ℕ, ◌+◌, ◌-◌, ◌*◌, ◌%◌, ◌^◌, Bool, not, ◌==◌, nat_lt, int_lt, bit_and, bit_or, bit_xor, List, if◌then◌else◌, slice_index}
 use Rattle.vx_base.specs.Numbers.{reduced, signed}
 use Rattle.vx_bits.specs.Arithmetic.{sum_at, difference_at, product_at, signed_high_at, unsigned_high_at, mixed_high_at, signed_quotient_at, unsigned_quotient_at, signed_remainder_at, unsigned_remainder_at, shifted_left_at, shifted_right_at, sign_shifted_right_at}
@@ -10,6 +11,12 @@ use Rattle.vx_rows.specs.declared.op.Op.{Op}
 use Rattle.vx_rows.specs.declared.op.Op.TheVariants.{Scalar, Set, Elem, Widen, Fixed, Mask, Perm, Memory}
 use Rattle.vx_rows.specs.declared.op.ScalarOp.{ScalarOp}
 use Rattle.vx_rows.specs.declared.op.ScalarOp.TheVariants.{Lui, Auipc, Jal, Jalr, Beq, Bne, Blt, Bge, Bltu, Bgeu, Lb, Lh, Lw, Ld, Lbu, Lhu, Lwu, Sb, Sh, Sw, Sd, Addi, Slti, Sltiu, Xori, Ori, Andi, Slli, Srli, Srai, Addiw, Slliw, Srliw, Sraiw, Add, Sub, Sll, Slt, Sltu, Xor, Srl, Sra, Or, And, Mul, Mulh, Mulhsu, Mulhu, Div, Divu, Rem, Remu, Addw, Subw, Sllw, Srlw, Sraw, Mulw, Divw, Divuw, Remw, Remuw, Fence, Ecall, Ebreak, Csrrw, Csrrs, Csrrc, Csrrwi, Csrrsi, Csrrci}
+use Rattle.vx_rows.specs.declared.op.SetOp.{SetOp}
+use Rattle.vx_rows.specs.declared.op.SetOp.TheVariants.{Vsetvli, Vsetivli, Vsetvl}
+use Rattle.vx_flat.specs.declared.control.Change.{Change}
+use Rattle.vx_flat.specs.declared.control.Change.TheVariants.{Replace, SetBits, ClearBits}
+use Rattle.vx_flat.specs.declared.control.Source.{Source}
+use Rattle.vx_flat.specs.declared.control.Source.TheVariants.{Register, Immediate}
 use Rattle.vx_flat.specs.declared.effect.Effect.{Effect}
 use Rattle.vx_flat.specs.declared.effect.Effect.TheVariants.{Value, Next, Misaligned}
 
@@ -53,9 +60,11 @@ pub data Work : Type 0 where
   Asks : Work
   -- it stops at a breakpoint
   Breaks : Work
-  -- it reads and writes a control register, which isn't executed yet
-  Controls : Work
-  -- it configures the vector unit or works on vector registers, which isn't executed yet
+  -- it reads a control register, and changes it so by an operand that stands there
+  Controls : (operand : Source) (change : Change) → Work
+  -- it configures vectors by a length and a vtype that stand there
+  Configures : (length vtype : Source) → Work
+  -- it works on vector registers
   Vectors : Work
 
 -- the effect of a row that puts a value into rd
@@ -159,16 +168,27 @@ scalar_work Remuw pc a b n = puts (extended (unsigned_remainder_at 32 a b)) pc
 scalar_work Fence pc a b n = passes pc
 scalar_work Ecall pc a b n = Asks
 scalar_work Ebreak pc a b n = Breaks
-scalar_work Csrrw pc a b n = Controls
-scalar_work Csrrs pc a b n = Controls
-scalar_work Csrrc pc a b n = Controls
-scalar_work Csrrwi pc a b n = Controls
-scalar_work Csrrsi pc a b n = Controls
-scalar_work Csrrci pc a b n = Controls
+scalar_work Csrrw pc a b n = Controls Register Replace
+scalar_work Csrrs pc a b n = Controls Register SetBits
+scalar_work Csrrc pc a b n = Controls Register ClearBits
+scalar_work Csrrwi pc a b n = Controls Immediate Replace
+scalar_work Csrrsi pc a b n = Controls Immediate SetBits
+scalar_work Csrrci pc a b n = Controls Immediate ClearBits
+
+-- where the length and the vtype stand of those that configure vectors
+abbrev pub length_source : SetOp → Source
+length_source Vsetvli = Register
+length_source Vsetivli = Immediate
+length_source Vsetvl = Register
+
+abbrev pub vtype_source : SetOp → Source
+vtype_source Vsetvli = Immediate
+vtype_source Vsetivli = Immediate
+vtype_source Vsetvl = Register
 
 abbrev pub work : Op → (pc a b n : ℕ) → Work
 work (Scalar op) pc a b n = scalar_work op pc a b n
-work (Set op) pc a b n = Vectors
+work (Set op) pc a b n = Configures (length_source op) (vtype_source op)
 work (Elem op) pc a b n = Vectors
 work (Widen op) pc a b n = Vectors
 work (Fixed op) pc a b n = Vectors
@@ -183,7 +203,8 @@ effect_of (Loads width value) pc = Next (next_pc pc)
 effect_of (Stores width) pc = Next (next_pc pc)
 effect_of Asks pc = Next (next_pc pc)
 effect_of Breaks pc = Next (next_pc pc)
-effect_of Controls pc = Next (next_pc pc)
+effect_of (Controls operand change) pc = Next (next_pc pc)
+effect_of (Configures length vtype) pc = Next (next_pc pc)
 effect_of Vectors pc = Next (next_pc pc)
 
 -- what an instruction does, of the registers and the pc

@@ -1,16 +1,23 @@
 //! What a program computes: the flat machine, which runs one process alone, an instruction at a time, on memory by page.
 //!
-//! The crate is its definitions (`specs/`): what the operations do, memory, the boot of an image, the step, the run and
-//! its end. It stands on the images of `vx_image`, on `vx_decode` and on the arithmetic of `vx_bits`. The crates above
-//! cite it; `vx_alone` is its plain program. Its functions have no code: each states a law of the definitions.
+//! The crate is its definitions (`specs/`): what the operations do, memory, the boot of an image on a hart, the step, the run and
+//! its end, states within an instruction, and the run that goes on past faults. It stands on the images of `vx_image`, on
+//! `vx_decode`, on the vector state of `vx_vstate` and on what vector instructions compute and access in `vx_vector`. The crates
+//! above cite it; `vx_alone` is its plain program. Its functions have no code: each states a law of the definitions.
 #![tactic(auto)]
 
+mod control;
 mod effect;
 mod end;
+mod hart;
 mod laws;
 mod upcoming;
 
+pub use control::{Change, Source};
 pub use effect::Effect;
 pub use end::End;
-pub use laws::{operations_do_as_their_class, output_only_grows};
+pub use hart::Hart;
+pub use laws::{
+    continued_run_is_the_run, enabled_vectors_stay, operations_do_as_their_class, output_only_grows,
+};
 pub use upcoming::Upcoming;

@@ -5,7 +5,7 @@ use vx_decode::Instr;
 pub enum Upcoming {
     /// The pc isn't canonical or its page can't be executed.
     Denied,
-    /// A word that no row has, or whose row isn't executed.
+    /// A word that no row has, or whose instruction is illegal in this state.
     Illegal(u32),
     /// An instruction.
     Instruction(Instr),

@@ -25,12 +25,12 @@ pub record Devices : Type 0 where
   pub note : SinkState
 
 -- the headline: after so many rounds the machine stops so, the report tells its state, and what it tells is so of the
--- image alone
+-- image alone on the hart of the run
 pub record Headline (settings : Settings) (image : Image) (stop : Stop) (text : List ℕ) : Type 0 where
   pub count : ℕ
   pub stops : stop_of settings (machine settings image count) ≡ Some stop
   pub tells : text ≡ report (account_of (machine settings image count) ∷ []) (machine settings image count).clock stop
-  pub values : IsTrueOf image (account_of (machine settings image count))
+  pub values : IsTrueOf settings.hart image (account_of (machine settings image count))
 
 -- the status of a run that stopped so
 abbrev pub status_of : Stop → Status

@@ -5,6 +5,7 @@ use Rattle.vx_image.specs.Pages.{Image}
 use Rattle.vx_flat.specs.Process.{Process, begun, stepped}
 use Rattle.vx_flat.specs.Service.{service}
 use Rattle.vx_flat.specs.State.{Flat, register}
+use Rattle.vx_flat.specs.declared.hart.Hart.{Hart}
 use Rattle.vx_machine.specs.declared.stop.Stop.{Stop}
 use Rattle.vx_machine.specs.declared.stop.Stop.TheVariants.{Done, Spent}
 use Rattle.vx_times.specs.Episode.{EpisodeEnd, episode}
@@ -14,8 +15,9 @@ use Rattle.vx_times.specs.declared.pause.Pause.TheVariants.{Slice, Service, Over
 use Rattle.vx_words.specs.Words.{OptionName, Given, given_number}
 use Rattle.vx_words.specs.Words.OptionName.{Window, Lanes, Budget}
 
--- the machine that a run is told for, the cycles of a slice, and the cycles after which the run ends
+-- the hart and the organisation that a run is told for, the cycles of a slice, and the cycles after which the run ends
 pub record Settings : Type 0 where
+  pub hart : Hart
   pub organisation : Organisation
   pub slice : ℕ
   pub budget : ℕ
@@ -24,9 +26,10 @@ pub record Settings : Type 0 where
 abbrev pub number_or : OptionName → (default : ℕ) → List Given → ℕ
 number_or option default givens = unwrap_or (given_number option givens) default
 
--- the settings of a run under these options
+-- the settings of a run under these options; vector instructions aren't enabled
 abbrev pub settings_for : List Given → Settings
 settings_for givens = record {
+  hart = record { vlen = 256; vectors_enabled = false };
   organisation = record { lanes = number_or Lanes 1 givens; banks = 8; bank_time = 4; window = number_or Window 1 givens };
   slice = 10000;
   budget = number_or Budget 1000000000 givens;
@@ -50,8 +53,8 @@ pub record Machine : Type 0 where
   pub has_run : Bool
 
 -- the machine at boot
-abbrev pub booted_machine : Image → Machine
-booted_machine image = record { process = begun image; cycles = 0; clock = 0; slice_end = None; has_run = false }
+abbrev pub booted_machine : Hart → Image → Machine
+booted_machine hart image = record { process = begun hart image; cycles = 0; clock = 0; slice_end = None; has_run = false }
 
 -- how the run stops at a boundary: with the process ended, or else with the clock at the budget
 abbrev pub stop_of : Settings → Machine → Option Stop
@@ -114,4 +117,4 @@ rounds settings (suc n) m = next_round settings (rounds settings n m)
 
 -- the machine after so many rounds from boot
 abbrev pub machine : Settings → Image → ℕ → Machine
-machine settings image n = rounds settings n (booted_machine image)
+machine settings image n = rounds settings n (booted_machine settings.hart image)

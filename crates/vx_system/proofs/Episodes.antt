@@ -3,6 +3,7 @@ use Rattle.std.proofs.Common.{◌≡◌, ℕ, zero, suc, ◌+◌, ◌-◌, ◌�
 use Rattle.std.proofs.lemmas.Bool.{le-leb, lt-leb}
 use Rattle.std.proofs.Math.Nat.{max-le, max-eq_left}
 use Rattle.std.specs.Prelude.{Option, Some, None, is_some, nat_le, not, ◌&&◌, filter, if◌then◌else◌}
+use Rattle.vx_decode.specs.Decoded.{decoded}
 use Rattle.vx_decode.specs.declared.instr.Instr.{Instr}
 use Rattle.vx_rows.specs.Table.{class_of}
 use Rattle.vx_rows.specs.declared.op.Op.{Op}
@@ -10,7 +11,7 @@ use Rattle.vx_rows.specs.declared.row.Class.{Class}
 use Rattle.vx_rows.specs.declared.row.Class.TheVariants as class
 use Rattle.vx_alone.specs.Asking.{is_service, is_service_class}
 use Rattle.vx_base.specs.Numbers.{reduced}
-use Rattle.vx_base.specs.declared.machine.Want.TheVariants.{Load, Store}
+use Rattle.vx_base.specs.declared.machine.Want.TheVariants.{Fetch, Load, Store}
 use Rattle.vx_flat.specs.Access.{access_address}
 use Rattle.vx_flat.specs.Memory.{permits}
 use Rattle.vx_flat.specs.Process.{Process, after, stepped}
@@ -18,8 +19,10 @@ use Rattle.vx_flat.specs.Classes.{Does}
 use Rattle.vx_flat.specs.Scalar.{Work, effect, effect_of, next_pc, put, work}
 use Rattle.vx_flat.specs.Scalar.Work.{Acts}
 use Rattle.vx_flat.specs.State.{Flat, register}
-use Rattle.vx_flat.specs.Step.{Outcome, upcoming, performed, performed_as, affect, affected, step}
-use Rattle.vx_flat.specs.Step.Outcome.{Next, Exited, Faulted}
+use Rattle.vx_flat.specs.Checks.{checked}
+use Rattle.vx_flat.specs.Outcome.{Outcome}
+use Rattle.vx_flat.specs.Outcome.Outcome.{Next, Exited, Faulted}
+use Rattle.vx_flat.specs.Step.{upcoming, performed, performed_as, affect, affected, step, meaning, is_executed, is_legal_as, word_at_pc}
 use Rattle.vx_flat.specs.declared.effect.Effect.{Effect}
 use Rattle.vx_flat.specs.declared.effect.Effect.TheVariants as effect
 use Rattle.vx_flat.specs.declared.end.End.{End}
@@ -76,37 +79,38 @@ put-goes s i value is h = subst (λ (w : Work). Ends (affected s i.rd (effect_of
 pass-goes : (s : Flat) (i : Instr) → work_of s i ≡ Acts (effect.Next (next_pc s.pc)) → Ends (affect s i) → ⊥
 pass-goes s i is h = subst (λ (w : Work). Ends (affected s i.rd (effect_of w s.pc))) is h
 
--- a load or a store, whose address fits and whose page grants it or not
-access-retires : (lanes banks bank_time start r k : ℕ) (history : History) (a b : ℕ) (writes : List ℕ) (element address : ℕ) (is_store fits granted : Bool) (x y z : Outcome) → IsQuiet (in_order lanes banks bank_time) start r history → k ≡ r + 4 + bank_time → (GoesOn x → ⊥) → (GoesOn y → ⊥) → GoesOn (if not fits then x else if not granted then y else z) → RetiresAt (in_order lanes banks bank_time) start history (one_access a b writes (access_of element address is_store (fits && granted))) k
-access-retires lanes banks bank_time start r k history a b writes element address is_store true true x y z q e nx ny h = RetiresAt-access lanes banks bank_time start r k history a b writes element address is_store q e
-access-retires lanes banks bank_time start r k history a b writes element address is_store true false x y z q e nx ny h = absurd (ny h)
-access-retires lanes banks bank_time start r k history a b writes element address is_store false granted x y z q e nx ny h = absurd (nx h)
+-- the cause of a load or a store, whose address fits and whose page grants it or not
+abbrev cause_by : (fits granted : Bool) → (misaligned denied : ℕ) → Option ℕ
+cause_by fits granted misaligned denied = if not fits then Some misaligned else if not granted then Some denied else None
 
-access-stops : (lanes banks bank_time start r k : ℕ) (history : History) (a b : ℕ) (writes : List ℕ) (element address : ℕ) (is_store fits granted : Bool) (x y z : Outcome) → IsQuiet (in_order lanes banks bank_time) start r history → k ≡ r + 2 → (Ends z → ⊥) → Ends (if not fits then x else if not granted then y else z) → StopsAt (in_order lanes banks bank_time) start history (one_access a b writes (access_of element address is_store (fits && granted))) Over k
-access-stops lanes banks bank_time start r k history a b writes element address is_store true true x y z q e nz h = absurd (nz h)
-access-stops lanes banks bank_time start r k history a b writes element address is_store true false x y z q e nz h = StopsAt-access lanes banks bank_time start r k history a b writes element address is_store q e
-access-stops lanes banks bank_time start r k history a b writes element address is_store false granted x y z q e nz h = StopsAt-access lanes banks bank_time start r k history a b writes element address is_store q e
+access-retires : (lanes banks bank_time start r k : ℕ) (history : History) (a b : ℕ) (writes : List ℕ) (element address : ℕ) (is_store fits granted : Bool) (misaligned denied : ℕ) (s done : Flat) → IsQuiet (in_order lanes banks bank_time) start r history → k ≡ r + 4 + bank_time → GoesOn (checked (cause_by fits granted misaligned denied) s address done) → RetiresAt (in_order lanes banks bank_time) start history (one_access a b writes (access_of element address is_store (fits && granted))) k
+access-retires lanes banks bank_time start r k history a b writes element address is_store true true misaligned denied s done q e h = RetiresAt-access lanes banks bank_time start r k history a b writes element address is_store q e
+access-retires lanes banks bank_time start r k history a b writes element address is_store true false misaligned denied s done q e h = absurd h
+access-retires lanes banks bank_time start r k history a b writes element address is_store false granted misaligned denied s done q e h = absurd h
 
-none : ⊥ → ⊥
-none h = h
+access-stops : (lanes banks bank_time start r k : ℕ) (history : History) (a b : ℕ) (writes : List ℕ) (element address : ℕ) (is_store fits granted : Bool) (misaligned denied : ℕ) (s done : Flat) → IsQuiet (in_order lanes banks bank_time) start r history → k ≡ r + 2 → Ends (checked (cause_by fits granted misaligned denied) s address done) → StopsAt (in_order lanes banks bank_time) start history (one_access a b writes (access_of element address is_store (fits && granted))) Over k
+access-stops lanes banks bank_time start r k history a b writes element address is_store true true misaligned denied s done q e h = absurd h
+access-stops lanes banks bank_time start r k history a b writes element address is_store true false misaligned denied s done q e h = StopsAt-access lanes banks bank_time start r k history a b writes element address is_store q e
+access-stops lanes banks bank_time start r k history a b writes element address is_store false granted misaligned denied s done q e h = StopsAt-access lanes banks bank_time start r k history a b writes element address is_store q e
 
 pub true-false : true ≡ false → ⊥
 true-false e = cc
 
 -- an instruction of a class
-class-retires : (lanes banks bank_time start r k : ℕ) (history : History) (c : Class) (s : Flat) (i : Instr) → IsQuiet (in_order lanes banks bank_time) start r history → is_service_class c ≡ false → GoesOn (performed_as c s i) → k ≡ r + 1 + class_time c bank_time → RetiresAt (in_order lanes banks bank_time) start history (footprint_as c s i) k
-class-retires lanes banks bank_time start r k history class.Arithmetic s i q other h e = RetiresAt-plain lanes banks bank_time start r k history false false 1 (i.rs1 ∷ i.rs2 ∷ []) (i.rd ∷ []) q (omega arith) (omega arith)
-class-retires lanes banks bank_time start r k history class.Multiply s i q other h e = RetiresAt-plain lanes banks bank_time start r k history false false 3 (i.rs1 ∷ i.rs2 ∷ []) (i.rd ∷ []) q (omega arith) (omega arith)
-class-retires lanes banks bank_time start r k history class.Divide s i q other h e = RetiresAt-plain lanes banks bank_time start r k history false false 20 (i.rs1 ∷ i.rs2 ∷ []) (i.rd ∷ []) q (omega arith) (omega arith)
-class-retires lanes banks bank_time start r k history class.Jump s i q other h e = jumping-retires lanes banks bank_time start r k history s i (effect i s.x s.pc) q (omega arith) h
-class-retires lanes banks bank_time start r k history class.Branch s i q other h e = jumping-retires lanes banks bank_time start r k history s i (effect i s.x s.pc) q (omega arith) h
-class-retires lanes banks bank_time start r k history class.Load s i q other h e =
-    access-retires lanes banks bank_time start r k history i.rs1 i.rs2 (i.rd ∷ []) 0 (access_address i s.x) false _ (permits s.memory (access_address i s.x) Load) _ _ _ q (omega arith) none none h
-class-retires lanes banks bank_time start r k history class.Store s i q other h e =
-    access-retires lanes banks bank_time start r k history i.rs1 i.rs2 (i.rd ∷ []) 0 (access_address i s.x) true _ (permits s.memory (access_address i s.x) Store) _ _ _ q (omega arith) none none h
-class-retires lanes banks bank_time start r k history class.Fence s i q other h e = RetiresAt-plain lanes banks bank_time start r k history true false 1 [] [] q (omega arith) (omega arith)
-class-retires lanes banks bank_time start r k history class.Ecall s i q other h e = absurd (true-false other)
-class-retires lanes banks bank_time start r k history c s i q other h e = absurd h
+class-retires : (lanes banks bank_time start r k : ℕ) (history : History) (c : Class) (s : Flat) (i : Instr) → is_executed false c ≡ true → IsQuiet (in_order lanes banks bank_time) start r history → is_service_class c ≡ false → GoesOn (performed_as c s i) → k ≡ r + 1 + class_time c bank_time → RetiresAt (in_order lanes banks bank_time) start history (footprint_as c s i) k
+class-retires lanes banks bank_time start r k history class.Arithmetic s i executed q other h e = RetiresAt-plain lanes banks bank_time start r k history false false 1 (i.rs1 ∷ i.rs2 ∷ []) (i.rd ∷ []) q (omega arith) (omega arith)
+class-retires lanes banks bank_time start r k history class.Multiply s i executed q other h e = RetiresAt-plain lanes banks bank_time start r k history false false 3 (i.rs1 ∷ i.rs2 ∷ []) (i.rd ∷ []) q (omega arith) (omega arith)
+class-retires lanes banks bank_time start r k history class.Divide s i executed q other h e = RetiresAt-plain lanes banks bank_time start r k history false false 20 (i.rs1 ∷ i.rs2 ∷ []) (i.rd ∷ []) q (omega arith) (omega arith)
+class-retires lanes banks bank_time start r k history class.Jump s i executed q other h e = jumping-retires lanes banks bank_time start r k history s i (effect i s.x s.pc) q (omega arith) h
+class-retires lanes banks bank_time start r k history class.Branch s i executed q other h e = jumping-retires lanes banks bank_time start r k history s i (effect i s.x s.pc) q (omega arith) h
+class-retires lanes banks bank_time start r k history class.Load s i executed q other h e =
+    access-retires lanes banks bank_time start r k history i.rs1 i.rs2 (i.rd ∷ []) 0 (access_address i s.x) false _ (permits s.memory (access_address i s.x) Load) _ _ _ _ q (omega arith) h
+class-retires lanes banks bank_time start r k history class.Store s i executed q other h e =
+    access-retires lanes banks bank_time start r k history i.rs1 i.rs2 (i.rd ∷ []) 0 (access_address i s.x) true _ (permits s.memory (access_address i s.x) Store) _ _ _ _ q (omega arith) h
+class-retires lanes banks bank_time start r k history class.Fence s i executed q other h e = RetiresAt-plain lanes banks bank_time start r k history true false 1 [] [] q (omega arith) (omega arith)
+class-retires lanes banks bank_time start r k history class.Ecall s i executed q other h e = absurd (true-false other)
+class-retires lanes banks bank_time start r k history class.Ebreak s i executed q other h e = absurd h
+class-retires lanes banks bank_time start r k history c s i executed q other h e = absurd (true-false (sym executed))
 
 class-stops : DoAsTheirClass → (lanes banks bank_time start r k : ℕ) (history : History) (c : Class) (s : Flat) (i : Instr) → class_of i.op ≡ c → IsQuiet (in_order lanes banks bank_time) start r history → is_service_class c ≡ false → Ends (performed_as c s i) → k ≡ r + 1 + class_fault_time c → StopsAt (in_order lanes banks bank_time) start history (footprint_as c s i) Over k
 class-stops law lanes banks bank_time start r k history class.Arithmetic s i is q other h e = let d = does-as law class.Arithmetic s i is in absurd (put-goes s i d.0 d.1 h)
@@ -116,9 +120,9 @@ class-stops law lanes banks bank_time start r k history class.Fence s i is q oth
 class-stops law lanes banks bank_time start r k history class.Jump s i is q other h e = jumping-stops lanes banks bank_time start r k history s i (effect i s.x s.pc) q (omega arith) h
 class-stops law lanes banks bank_time start r k history class.Branch s i is q other h e = jumping-stops lanes banks bank_time start r k history s i (effect i s.x s.pc) q (omega arith) h
 class-stops law lanes banks bank_time start r k history class.Load s i is q other h e =
-    access-stops lanes banks bank_time start r k history i.rs1 i.rs2 (i.rd ∷ []) 0 (access_address i s.x) false _ (permits s.memory (access_address i s.x) Load) _ _ _ q (omega arith) none h
+    access-stops lanes banks bank_time start r k history i.rs1 i.rs2 (i.rd ∷ []) 0 (access_address i s.x) false _ (permits s.memory (access_address i s.x) Load) _ _ _ _ q (omega arith) h
 class-stops law lanes banks bank_time start r k history class.Store s i is q other h e =
-    access-stops lanes banks bank_time start r k history i.rs1 i.rs2 (i.rd ∷ []) 0 (access_address i s.x) true _ (permits s.memory (access_address i s.x) Store) _ _ _ q (omega arith) none h
+    access-stops lanes banks bank_time start r k history i.rs1 i.rs2 (i.rd ∷ []) 0 (access_address i s.x) true _ (permits s.memory (access_address i s.x) Store) _ _ _ _ q (omega arith) h
 class-stops law lanes banks bank_time start r k history class.Ecall s i is q other h e = absurd (true-false other)
 class-stops law lanes banks bank_time start r k history c s i is q other h e = StopsAt-serial lanes banks bank_time start r k history Faults q (omega arith)
 
@@ -126,12 +130,35 @@ class-serves : (lanes banks bank_time start r k : ℕ) (history : History) (c : 
 class-serves lanes banks bank_time start r k history class.Ecall s i q asks e = StopsAt-serial lanes banks bank_time start r k history Serves q e
 class-serves lanes banks bank_time start r k history c s i q asks e = absurd (true-false (sym asks))
 
+-- what comes next is executed where vectors aren't enabled, if it is an instruction
+abbrev IsExecuted : Upcoming → Type 0
+IsExecuted Denied = Unit {0}
+IsExecuted (Illegal word) = Unit {0}
+IsExecuted (Instruction i) = is_executed false (class_of i.op) ≡ true
+
+IsExecuted-legal : (executed legal : Bool) (word : ℕ) (i : Instr) → is_executed false (class_of i.op) ≡ executed → IsExecuted (if executed && legal then Instruction i else Illegal word)
+IsExecuted-legal true true word i e = e
+IsExecuted-legal true false word i e = tt
+IsExecuted-legal false legal word i e = tt
+
+IsExecuted-meaning : (s : Flat) (word : ℕ) (o : Option Instr) → s.vectors_enabled ≡ false → IsExecuted (meaning s word o)
+IsExecuted-meaning s word None e = tt
+IsExecuted-meaning s word (Some i) e = IsExecuted-legal (is_executed s.vectors_enabled (class_of i.op)) (is_legal_as (class_of i.op) s i) word i (ap (λ (enabled : Bool). is_executed enabled (class_of i.op)) (sym e))
+
+IsExecuted-if : (granted : Bool) (u : Upcoming) → IsExecuted u → IsExecuted (if granted then u else Denied)
+IsExecuted-if true u h = h
+IsExecuted-if false u h = tt
+
+IsExecuted-upcoming : (s : Flat) → s.vectors_enabled ≡ false → IsExecuted (upcoming s)
+unfolding upcoming
+IsExecuted-upcoming s e = IsExecuted-if (permits s.memory s.pc Fetch) (meaning s (word_at_pc s) (decoded (word_at_pc s))) (IsExecuted-meaning s (word_at_pc s) (decoded (word_at_pc s)) e)
+
 -- what comes next
-upcoming-retires : (lanes banks bank_time start r k : ℕ) (history : History) (s : Flat) (u : Upcoming) → IsQuiet (in_order lanes banks bank_time) start r history → is_service u ≡ false → GoesOn (performed s u) → k ≡ r + 1 + retire_time u bank_time → RetiresAt (in_order lanes banks bank_time) start history (footprint_of s u) k
+upcoming-retires : (lanes banks bank_time start r k : ℕ) (history : History) (s : Flat) (u : Upcoming) → IsExecuted u → IsQuiet (in_order lanes banks bank_time) start r history → is_service u ≡ false → GoesOn (performed s u) → k ≡ r + 1 + retire_time u bank_time → RetiresAt (in_order lanes banks bank_time) start history (footprint_of s u) k
 unfolding performed
-upcoming-retires lanes banks bank_time start r k history s Denied q other h e = absurd h
-upcoming-retires lanes banks bank_time start r k history s (Illegal word) q other h e = absurd h
-upcoming-retires lanes banks bank_time start r k history s (Instruction i) q other h e = class-retires lanes banks bank_time start r k history (class_of i.op) s i q other h e
+upcoming-retires lanes banks bank_time start r k history s Denied executed q other h e = absurd h
+upcoming-retires lanes banks bank_time start r k history s (Illegal word) executed q other h e = absurd h
+upcoming-retires lanes banks bank_time start r k history s (Instruction i) executed q other h e = class-retires lanes banks bank_time start r k history (class_of i.op) s i executed q other h e
 
 upcoming-stops : DoAsTheirClass → (lanes banks bank_time start r k : ℕ) (history : History) (s : Flat) (u : Upcoming) → IsQuiet (in_order lanes banks bank_time) start r history → is_service u ≡ false → Ends (performed s u) → k ≡ r + 1 + fault_time u → StopsAt (in_order lanes banks bank_time) start history (footprint_of s u) Over k
 unfolding performed
@@ -249,11 +276,11 @@ rest-more machine start until r k (suc bound) whole p history enough later early
     }
 
 -- the footprint of a process that goes on, ends or asks for a service
-retires-now : (lanes banks bank_time start r k : ℕ) (history : History) (p : Process) (u : Upcoming) → IsQuiet (in_order lanes banks bank_time) start r history → u ≡ upcoming p.state → is_service u ≡ false → p.over ≡ None → (stepped p).over ≡ None → k ≡ r + 1 + retire_time u bank_time → RetiresAt (in_order lanes banks bank_time) start history (footprint p.state) k
-retires-now lanes banks bank_time start r k history p u q is other running goes e =
+retires-now : (lanes banks bank_time start r k : ℕ) (history : History) (p : Process) (u : Upcoming) → p.state.vectors_enabled ≡ false → IsQuiet (in_order lanes banks bank_time) start r history → u ≡ upcoming p.state → is_service u ≡ false → p.over ≡ None → (stepped p).over ≡ None → k ≡ r + 1 + retire_time u bank_time → RetiresAt (in_order lanes banks bank_time) start history (footprint p.state) k
+retires-now lanes banks bank_time start r k history p u vectors q is other running goes e =
     let at : is_service (upcoming p.state) ≡ false = ap is_service (sym is) ∙ other in
     let time : k ≡ r + 1 + retire_time (upcoming p.state) bank_time = e ∙ ap (λ (v : Upcoming). r + 1 + retire_time v bank_time) is in
-    subst (λ (f : Footprint). RetiresAt (in_order lanes banks bank_time) start history f k) (sym (footprint-is p.state)) (upcoming-retires lanes banks bank_time start r k history p.state (upcoming p.state) q at (goes-on p running goes) time)
+    subst (λ (f : Footprint). RetiresAt (in_order lanes banks bank_time) start history f k) (sym (footprint-is p.state)) (upcoming-retires lanes banks bank_time start r k history p.state (upcoming p.state) (IsExecuted-upcoming p.state vectors) q at (goes-on p running goes) time)
 
 -- how an episode with one instruction in flight ends, for the rest as the code keeps it
 abbrev pub IsRestAnyhow : (bank_time start until retired : ℕ) (first now : Process) → Type 0
@@ -296,19 +323,19 @@ EndsAnyhow-over law bank_time start until r t first now later u rest is other ru
 goes-of : (now later : Process) → later ≡ stepped now → is_some later.over ≡ false → (stepped now).over ≡ None
 goes-of now later steps over = ap (λ (q : Process). q.over) (sym steps) ∙ none-of later.over over
 
-pub EndsAnyhow-slice : (bank_time start until r t : ℕ) (first now later : Process) (u : Upcoming) → IsRestAnyhow bank_time start until r first now → u ≡ upcoming now.state → is_service u ≡ false → now.over ≡ None → later ≡ stepped now → is_some later.over ≡ false → t ≡ retire_time u bank_time → until ≤ r + 1 + t → EndsAnyhow bank_time start until first Slice (r + 1 + t + 20) later
-EndsAnyhow-slice bank_time start until r t first now later u rest is other running steps over time late lanes banks =
+pub EndsAnyhow-slice : (bank_time start until r t : ℕ) (first now later : Process) (u : Upcoming) → now.state.vectors_enabled ≡ false → IsRestAnyhow bank_time start until r first now → u ≡ upcoming now.state → is_service u ≡ false → now.over ≡ None → later ≡ stepped now → is_some later.over ≡ false → t ≡ retire_time u bank_time → until ≤ r + 1 + t → EndsAnyhow bank_time start until first Slice (r + 1 + t + 20) later
+EndsAnyhow-slice bank_time start until r t first now later u vectors rest is other running steps over time late lanes banks =
     let h = rest lanes banks in
     let k = r + 1 + t in
     slice-whole (in_order lanes banks bank_time) start until r k _ now h
-    (retires-now lanes banks bank_time start r k h.history now u h.quiet is other running (goes-of now later steps over) (ap (λ (n : ℕ). r + 1 + n) time)) late
+    (retires-now lanes banks bank_time start r k h.history now u vectors h.quiet is other running (goes-of now later steps over) (ap (λ (n : ℕ). r + 1 + n) time)) late
     ∙ ap (λ (q : Process). record { pause = Slice; clock = k + 20; process = q }) (sym steps)
 
-pub IsRestAnyhow-more : (bank_time start until r t : ℕ) (first now later : Process) (u : Upcoming) → IsRestAnyhow bank_time start until r first now → u ≡ upcoming now.state → is_service u ≡ false → now.over ≡ None → later ≡ stepped now → is_some later.over ≡ false → t ≡ retire_time u bank_time → r + 1 + t < until → IsRestAnyhow bank_time start until (r + 1 + t) first later
-IsRestAnyhow-more bank_time start until r t first now later u rest is other running steps over time early lanes banks =
+pub IsRestAnyhow-more : (bank_time start until r t : ℕ) (first now later : Process) (u : Upcoming) → now.state.vectors_enabled ≡ false → IsRestAnyhow bank_time start until r first now → u ≡ upcoming now.state → is_service u ≡ false → now.over ≡ None → later ≡ stepped now → is_some later.over ≡ false → t ≡ retire_time u bank_time → r + 1 + t < until → IsRestAnyhow bank_time start until (r + 1 + t) first later
+IsRestAnyhow-more bank_time start until r t first now later u vectors rest is other running steps over time early lanes banks =
     let h = rest lanes banks in
     let k = r + 1 + t in
     let machine = in_order lanes banks bank_time in
     subst (λ (q : Process). IsRest machine start until (episode machine start until first) k q) (sym steps)
     (rest-more machine start until r k h.bound _ now h.history h.enough (omega arith) early h.is
-    (retires-now lanes banks bank_time start r k h.history now u h.quiet is other running (goes-of now later steps over) (ap (λ (n : ℕ). r + 1 + n) time)))
+    (retires-now lanes banks bank_time start r k h.history now u vectors h.quiet is other running (goes-of now later steps over) (ap (λ (n : ℕ). r + 1 + n) time)))

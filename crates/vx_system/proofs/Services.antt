@@ -13,7 +13,7 @@ use Rattle.vx_flat.specs.Process.{Process, after, stepped}
 use Rattle.vx_flat.specs.Service.{service, answered}
 use Rattle.vx_flat.specs.State.{Flat, register}
 use Rattle.vx_flat.specs.Step.{upcoming, performed, performed_as, ecall}
-use Rattle.vx_flat.specs.Step.Outcome.{Next, Exited}
+use Rattle.vx_flat.specs.Outcome.Outcome.{Next, Exited}
 use Rattle.vx_flat.specs.declared.upcoming.Upcoming.{Upcoming}
 use Rattle.vx_flat.specs.declared.upcoming.Upcoming.TheVariants.{Denied, Illegal, Instruction}
 use Rattle.vx_system.proofs.Episodes.{stepped-is, true-false}

@@ -1,5 +1,5 @@
 -- What a system is seen as, and what its run does. This project's own.
-use Rattle.std.specs.Prelude.{◌≡◌, ℕ, ◌+◌, ◌≤◌, ◌<◌, ◌^◌, true, Some, None}
+use Rattle.std.specs.Prelude.{◌≡◌, ℕ, ◌+◌, ◌≤◌, ◌<◌, ◌^◌, true, false, Some, None}
 use Rattle.vx_alone.specs.Asking.{is_service}
 use Rattle.vx_base.specs.declared.options.Options.{Options}
 use Rattle.vx_flat.specs.Process.{Process, stepped_on}
@@ -12,9 +12,10 @@ pub record SystemState : Type 0 where
   pub settings : Settings
   pub machine : Machine
 
--- the settings that the options of a run name
+-- the settings that the options of a run name; vector instructions aren't enabled
 abbrev pub settings_of : Options → Settings
 settings_of options = record {
+  hart = record { vlen = options.vlen; vectors_enabled = false };
   organisation = record { lanes = options.lanes; banks = options.banks; bank_time = options.bank_time; window = options.window };
   slice = options.slice;
   budget = options.budget;

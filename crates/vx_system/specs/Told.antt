@@ -4,7 +4,7 @@ use Rattle.vx_system.specs.declared.report.ProcessReport.{ProcessReport}
 
 abbrev pub told : ProcessReport → Account
 told process = record {
-  standing = standing_of process.pc process.over;
+  standing = standing_of process.pc process.vstart process.over;
   instructions = process.instructions;
   cycles = process.cycles;
   misses = process.misses;

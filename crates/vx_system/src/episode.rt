@@ -1,4 +1,4 @@
-ghost use Rattle.std.specs.Prelude.{◌≡◌, ◌+◌, ◌≤◌, ◌<◌, ◌^◌, ℕ, None};
+ghost use Rattle.std.specs.Prelude.{◌≡◌, ◌+◌, ◌≤◌, ◌<◌, ◌^◌, ℕ, false, None};
 ghost use Rattle.vx_flat.specs.Process.{stepped};
 ghost use Rattle.vx_machine.specs.Machine.{words_moved};
 ghost use Rattle.vx_system.specs.Runs.{IsAsking, StepsTo};
@@ -6,7 +6,7 @@ ghost use Rattle.vx_times.specs.Episode.{episode};
 
 use crate::timing::{TRAP, fault_time, retire_time, words_held};
 use vx_alone::{Alone, asks};
-use vx_flat::operations_do_as_their_class;
+use vx_flat::{enabled_vectors_stay, operations_do_as_their_class};
 use vx_times::Pause;
 
 /// How an episode ended, and the cycle at which the system takes over.
@@ -20,6 +20,7 @@ pub struct Episode {
 /// `until`, a service, or the end of the process.
 pub fn run_episode(process: &mut Alone, start: u64, until: u64, bank_time: u64) -> Episode
     requires running { process.old.over ≡ None }
+    requires vectors { process.old.state.vectors_enabled ≡ false }
     requires start { start ≤ 2 ^ 41 }
     requires until { until ≤ 2 ^ 41 }
     requires bank_time { bank_time ≤ 16 }
@@ -28,8 +29,10 @@ pub fn run_episode(process: &mut Alone, start: u64, until: u64, bank_time: u64) 
     ensures bounded { result.clock ≤ 2 ^ 41 + 128 }
     ensures later { start < result.clock }
     ensures service { result.pause ≡ Pause.Service → IsAsking process.new }
+    ensures vectors { process.new.state.vectors_enabled ≡ false }
 {
     operations_do_as_their_class();
+    enabled_vectors_stay();
     let mut retired = start;
     loop {
         let next = process.advance();
@@ -60,9 +63,11 @@ pub fn run_episode(process: &mut Alone, start: u64, until: u64, bank_time: u64) 
 pub fn serve(process: &mut Alone) -> u64
     requires asking { IsAsking process.old }
     ensures stepped { process.new ≡ stepped process.old }
+    ensures vectors { process.new.state.vectors_enabled ≡ process.old.state.vectors_enabled }
     ensures words { result ≡ words_moved process.old.state }
     ensures bounded { result ≤ 2 ^ 20 + 1 }
 {
+    enabled_vectors_stay();
     let address = process.arch().regs.x[11];
     let before = process.output().len();
     process.serve();

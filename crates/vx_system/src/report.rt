@@ -15,6 +15,7 @@ use vx_machine::Stop;
 pub struct ProcessReport<'a> {
     pub over: Option<End>,
     pub pc: u64,
+    pub vstart: u32,
     pub instructions: u64,
     pub cycles: u64,
     pub misses: u64,
@@ -41,7 +42,7 @@ fn push_words(text: &mut Vec<u8>, words: &str) -> Result<(), AllocError>
 
 /// Appends the line of a process that exited.
 fn push_exited(alloc: Global, text: &mut Vec<u8>, number: u32, code: i64) -> Result<(), AllocError>
-    ensures { OnOk result (text.new.items ≡ text.old.items ++ line (codes "process " ∷ decimal number ∷ codes ": " ∷ standing_words (standing_of 0 (Some (End.Exited code))))) }
+    ensures { OnOk result (text.new.items ≡ text.old.items ++ line (codes "process " ∷ decimal number ∷ codes ": " ∷ standing_words (standing_of 0 0 (Some (End.Exited code))))) }
 {
     let start = format!(in alloc; "process {number}: exited {code}\n")?;
     text.extend_from_slice(start.as_bytes())?;
@@ -56,7 +57,7 @@ fn push_faulted(
     fault: Fault,
     pc: u64,
 ) -> Result<(), AllocError>
-    ensures { OnOk result (text.new.items ≡ text.old.items ++ line (codes "process " ∷ decimal number ∷ codes ": " ∷ standing_words (standing_of pc (Some (End.Faulted fault))))) }
+    ensures { OnOk result (text.new.items ≡ text.old.items ++ line (codes "process " ∷ decimal number ∷ codes ": " ∷ standing_words (standing_of pc 0 (Some (End.Faulted fault))))) }
 {
     let cause = fault.cause;
     let start = format!(in alloc; "process {number}: faulted cause {cause} pc 0x")?;
@@ -71,13 +72,18 @@ fn push_faulted(
 }
 
 /// Appends the line of a process that was stopped.
-fn push_stopped(alloc: Global, text: &mut Vec<u8>, number: u32, pc: u64) -> Result<(), AllocError>
-    ensures { OnOk result (text.new.items ≡ text.old.items ++ line (codes "process " ∷ decimal number ∷ codes ": " ∷ standing_words (standing_of pc None))) }
+fn push_stopped(
+    alloc: Global,
+    text: &mut Vec<u8>,
+    number: u32,
+    pc: u64,
+    vstart: u32,
+) -> Result<(), AllocError>
+    ensures { OnOk result (text.new.items ≡ text.old.items ++ line (codes "process " ∷ decimal number ∷ codes ": " ∷ standing_words (standing_of pc vstart None))) }
 {
     let start = format!(in alloc; "process {number}: stopped pc 0x")?;
     text.extend_from_slice(start.as_bytes())?;
     push_number(alloc, text, pc)?;
-    let vstart = 0u32;
     let end = format!(in alloc; " vstart {vstart}\n")?;
     text.extend_from_slice(end.as_bytes())?;
     Ok(())
@@ -90,12 +96,12 @@ fn push_standing(
     number: u32,
     process: &ProcessReport<'_>,
 ) -> Result<(), AllocError>
-    ensures { OnOk result (text.new.items ≡ text.old.items ++ line (codes "process " ∷ decimal number ∷ codes ": " ∷ standing_words (standing_of process.now.pc process.now.over))) }
+    ensures { OnOk result (text.new.items ≡ text.old.items ++ line (codes "process " ∷ decimal number ∷ codes ": " ∷ standing_words (standing_of process.now.pc process.now.vstart process.now.over))) }
 {
     match process.over {
         Some(End::Exited(code)) => push_exited(alloc, text, number, code),
         Some(End::Faulted(fault)) => push_faulted(alloc, text, number, fault, process.pc),
-        None => push_stopped(alloc, text, number, process.pc),
+        None => push_stopped(alloc, text, number, process.pc, process.vstart),
     }
 }
 

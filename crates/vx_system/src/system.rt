@@ -10,7 +10,7 @@ use crate::report::{ProcessReport, push_process, push_total};
 use crate::timing::{SERVICE, SWITCH};
 use std::alloc::{AllocError, Global};
 use std::marker::Model;
-use vx_alone::Alone;
+use vx_alone::{Alone, Hart};
 use vx_base::{Bytes, Options};
 use vx_image::Image;
 use vx_machine::Stop;
@@ -48,11 +48,16 @@ impl Model for System {
 
 impl System {
     /// The system of an image, at cycle 0. It takes all the memory of the run here.
+    #[tactic(auto, unfolding(vx_flat::specs::Boot::booted))]
     pub fn boot(alloc: Global, image: &Image, options: &Options) -> Result<System, AllocError>
         requires window { options.now.window ≡ 1 }
-        ensures { IfOk result (λ s. s ≡ record { settings = settings_of options.now; machine = booted_machine image.now }) }
+        ensures { IfOk result (λ s. s ≡ record { settings = settings_of options.now; machine = booted_machine (settings_of options.now).hart image.now }) }
     {
-        let process = Alone::boot(alloc, image)?;
+        let hart = Hart {
+            vlen: options.vlen,
+            vectors_enabled: false,
+        };
+        let process = Alone::boot_on(alloc, image, hart)?;
         Ok(System {
             process,
             options: *options,
@@ -167,6 +172,7 @@ impl System {
         let process = ProcessReport {
             over: self.process.over(),
             pc: arch.pc,
+            vstart: arch.v.vstart(),
             instructions: self.process.count(),
             cycles: self.cycles,
             misses: 0,

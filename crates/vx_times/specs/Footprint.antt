@@ -87,7 +87,7 @@ footprint_as class.Store s i = accessing i (one_access s i Store true)
 footprint_as class.Fence s i = fencing
 footprint_as class.Ecall s i = stopping Serves
 footprint_as class.Ebreak s i = stopping Faults
--- these aren't executed
+-- these have no times yet: no hart that is timed has vectors enabled
 footprint_as class.Csr s i = stopping Faults
 footprint_as class.Set s i = stopping Faults
 footprint_as (class.VectorArithmetic family) s i = stopping Faults

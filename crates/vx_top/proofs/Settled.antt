@@ -9,6 +9,7 @@ use Rattle.vx_system.specs.Runs.{settings_of}
 
 -- the options have the run's numbers, and else their defaults
 pub record AreFor (options : Options) (run : RunWords) : Type 0 where
+  pub vlen : options.vlen ≡ 256
   pub lanes : options.lanes ≡ unwrap_or run.lanes 1
   pub banks : options.banks ≡ 8
   pub bank_time : options.bank_time ≡ 4
@@ -18,6 +19,7 @@ pub record AreFor (options : Options) (run : RunWords) : Type 0 where
 
 pub settled : (words : List (List ℕ)) (run : RunWords) (read : AreRead words run) (options : Options) → AreFor options run → settings_of options ≡ settings_for read.givens
 settled words run read options for =
+    let v = for.vlen in
     let lanes = read.lanes in
     let window = read.window in
     let budget = read.budget in

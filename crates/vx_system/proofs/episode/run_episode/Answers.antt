@@ -1,7 +1,7 @@
 use Rattle.std.proofs.Common.{◌≡◌, true, false, refl, sym, ap, arith, rules, ◌∙◌}
 use Rattle.std.specs.Prelude.{is_some}
 use Rattle.vx_alone.specs.Asking.{asks, is_service}
-use Rattle.vx_flat.specs.Process.{stepped}
+use Rattle.vx_flat.specs.Process.{Process}
 use Rattle.vx_flat.specs.Step.{upcoming}
 use Rattle.vx_system.proofs.Episodes.{IsRest-start, IsRestAnyhow-more, EndsAnyhow-service, EndsAnyhow-over, EndsAnyhow-slice}
 use Rattle.vx_system.proofs.Steps.{StepsTo-none, StepsTo-step, StepsTo-later}
@@ -28,6 +28,11 @@ returns-then-asks-clause-service c =
     let asked : is_service (upcoming p.state) ≡ true = ap asks (sym c.advance-next.ensures.class) ∙ yes in
     rw (c.advance-next.ensures.waits yes) (λ service. record { running = c.loop-next.invariant.0; service = asked })
 
+pub returns-then-asks-clause-vectors : goal.returns-then-asks-clause-vectors
+returns-then-asks-clause-vectors c =
+    let yes : asks c.advance-next.result ≡ true = sym c.asks.ensures ∙ c.if-asks.true in
+    ap (λ (q : Process). q.state.vectors_enabled) (c.advance-next.ensures.waits yes) ∙ c.loop-next.invariant.4
+
 pub returns-then-is_some-clause-episode : goal.returns-then-is_some-clause-episode
 returns-then-is_some-clause-episode c =
     let p = c.loop-next.process in
@@ -42,6 +47,11 @@ returns-then-is_some-clause-steps c =
     let no : asks c.advance-next.result ≡ false = sym c.asks.ensures ∙ c.if-asks.false in
     StepsTo-step _ _ _ c.args.start c.loop-next.retired _ c.loop-next.invariant.1 (c.advance-next.ensures.stepped no) (omega arith)
 
+pub returns-then-is_some-clause-vectors : goal.returns-then-is_some-clause-vectors
+returns-then-is_some-clause-vectors c =
+    let no : asks c.advance-next.result ≡ false = sym c.asks.ensures ∙ c.if-asks.false in
+    ap (λ (q : Process). q.state.vectors_enabled) (c.advance-next.ensures.stepped no) ∙ c.enabled_vectors_stay.ensures c.loop-next.process ∙ c.loop-next.invariant.4
+
 pub returns-then-retired-until-clause-episode : goal.returns-then-retired-until-clause-episode
 returns-then-retired-until-clause-episode c =
     let p = c.loop-next.process in
@@ -49,15 +59,20 @@ returns-then-retired-until-clause-episode c =
     let other : is_service (upcoming p.state) ≡ false = ap asks (sym c.advance-next.ensures.class) ∙ no in
     let goes : is_some c.advance-next.new.self.over ≡ false = cc in
     let time : c.retire_time.result ≡ retire_time (upcoming p.state) c.args.bank_time = c.retire_time.ensures ∙ ap (λ next. time_as next c.args.bank_time) c.advance-next.ensures.class in
-    EndsAnyhow-slice c.args.bank_time c.args.start c.args.until c.loop-next.retired c.retire_time.result c.args.process.now p c.advance-next.new.self (upcoming p.state) c.loop-next.invariant.3 refl other c.loop-next.invariant.0 (c.advance-next.ensures.stepped no) goes time c.if-retired-until.true
+    EndsAnyhow-slice c.args.bank_time c.args.start c.args.until c.loop-next.retired c.retire_time.result c.args.process.now p c.advance-next.new.self (upcoming p.state) c.loop-next.invariant.4 c.loop-next.invariant.3 refl other c.loop-next.invariant.0 (c.advance-next.ensures.stepped no) goes time c.if-retired-until.true
 
 pub returns-then-retired-until-clause-steps : goal.returns-then-retired-until-clause-steps
 returns-then-retired-until-clause-steps c =
     let no : asks c.advance-next.result ≡ false = sym c.asks.ensures ∙ c.if-asks.false in
     StepsTo-step _ _ _ c.args.start c.loop-next.retired _ c.loop-next.invariant.1 (c.advance-next.ensures.stepped no) (omega arith)
 
+pub returns-then-retired-until-clause-vectors : goal.returns-then-retired-until-clause-vectors
+returns-then-retired-until-clause-vectors c =
+    let no : asks c.advance-next.result ≡ false = sym c.asks.ensures ∙ c.if-asks.false in
+    ap (λ (q : Process). q.state.vectors_enabled) (c.advance-next.ensures.stepped no) ∙ c.enabled_vectors_stay.ensures c.loop-next.process ∙ c.loop-next.invariant.4
+
 pub loop-next-init : goal.loop-next-init
-loop-next-init c = (c.requires.running, StepsTo-none _ _, c.requires.start, λ lanes banks. IsRest-start lanes banks _ _ _ _)
+loop-next-init c = (c.requires.running, StepsTo-none _ _, c.requires.start, λ lanes banks. IsRest-start lanes banks _ _ _ _, c.requires.vectors)
 
 pub loop-next-preserved : goal.loop-next-preserved
 loop-next-preserved c =
@@ -69,5 +84,6 @@ loop-next-preserved c =
       search rules,
       StepsTo-step _ _ _ c.args.start c.loop-next.retired _ c.loop-next.invariant.1 (c.advance-next.ensures.stepped no) (omega arith),
       omega arith,
-      IsRestAnyhow-more c.args.bank_time c.args.start c.args.until c.loop-next.retired c.retire_time.result c.args.process.now p c.advance-next.new.self (upcoming p.state) c.loop-next.invariant.3 refl other c.loop-next.invariant.0 (c.advance-next.ensures.stepped no) goes time c.if-retired-until.false,
+      IsRestAnyhow-more c.args.bank_time c.args.start c.args.until c.loop-next.retired c.retire_time.result c.args.process.now p c.advance-next.new.self (upcoming p.state) c.loop-next.invariant.4 c.loop-next.invariant.3 refl other c.loop-next.invariant.0 (c.advance-next.ensures.stepped no) goes time c.if-retired-until.false,
+      ap (λ (q : Process). q.state.vectors_enabled) (c.advance-next.ensures.stepped no) ∙ c.enabled_vectors_stay.ensures p ∙ c.loop-next.invariant.4,
     )

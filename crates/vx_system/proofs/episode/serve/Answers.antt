@@ -1,8 +1,12 @@
-use Rattle.std.proofs.Common.{◌≡◌, length, ◌∙◌}
+use Rattle.std.proofs.Common.{◌≡◌, ap, length, ◌∙◌}
+use Rattle.vx_flat.specs.Process.{Process}
 use Rattle.vx_flat.specs.Service.{service}
 use Rattle.vx_flat.specs.State.{register}
 use Rattle.vx_system.proofs.Services.{written-served}
 use Rattle.vx_system.proofs.episode.serve.Goals as goal
+
+pub returns-clause-vectors : goal.returns-clause-vectors
+returns-clause-vectors c = ap (λ (q : Process). q.state.vectors_enabled) c.serve.ensures.stepped ∙ c.enabled_vectors_stay.ensures c.args.process.now
 
 pub returns-clause-words : goal.returns-clause-words
 returns-clause-words c =

@@ -10,6 +10,7 @@ use Rattle.vx_top.proofs.call.run.Goals as goal
 pub returns-in-Ok : goal.returns-in-Ok
 returns-in-Ok g c words read =
     let for : AreFor c.options_for-options.result c.args.run.now = record {
+      vlen = c.options_for-options.ensures.vlen;
       lanes = c.options_for-options.ensures.lanes;
       banks = c.options_for-options.ensures.banks;
       bank_time = c.options_for-options.ensures.bank_time;
