@@ -3,3 +3,5 @@ pub mod Groups
 pub mod Merging
 pub mod Places
 pub mod Moves
+pub mod ByIndex
+pub mod Counts

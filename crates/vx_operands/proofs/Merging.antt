@@ -45,17 +45,17 @@ unfolding some_below
 some_alike zero f g h = refl
 some_alike (suc n) f g h = λ i. some_alike n f g (λ k l. h k (omega arith)) i || h n (omega arith) i
 
-lane_bit : (x k : ℕ) → lane 1 x k ≡ bit_at x k
+pub lane_bit : (x k : ℕ) → lane 1 x k ≡ bit_at x k
 lane_bit x k = let e : k * 1 ≡ k = omega arith in ap (λ j. x / 2 ^ j % 2) e
 
-full_bit : (k : ℕ) → k < 64 → nat_eq (lane 1 (2 ^ 64 - 1) k) 1 ≡ true
+pub full_bit : (k : ℕ) → k < 64 → nat_eq (lane 1 (2 ^ 64 - 1) k) 1 ≡ true
 full_bit k l = eq-eqb (lane 1 (2 ^ 64 - 1) k) 1 (lane_bit (2 ^ 64 - 1) k ∙ bit_at_ones 64 k l)
 
-truth_bit : (b : Bool) → nat_eq (truth b % 2 ^ 1) 1 ≡ b
+pub truth_bit : (b : Bool) → nat_eq (truth b % 2 ^ 1) 1 ≡ b
 truth_bit true = refl
 truth_bit false = refl
 
-truth_one : (b : Bool) → nat_eq (truth b) 1 ≡ b
+pub truth_one : (b : Bool) → nat_eq (truth b) 1 ≡ b
 truth_one true = refl
 truth_one false = refl
 
@@ -65,7 +65,7 @@ and_none false y = refl
 
 -- ---- what becomes of an element
 
-becomes_each : (rule : Rule) (r : Reading) (i : ℕ) → IsTrue (is_each rule) → becomes_by rule r i ≡ given (is_active r i) (answer_by rule (numbers_at r i))
+pub becomes_each : (rule : Rule) (r : Reading) (i : ℕ) → IsTrue (is_each rule) → becomes_by rule r i ≡ given (is_active r i) (answer_by rule (numbers_at r i))
 becomes_each (Each f) r i h = refl
 becomes_each other r i h = absurd (false≢true h)
 
@@ -85,7 +85,7 @@ saturates_is r i h = ap has_saturated (becomes_each (rule_of r.family) r i h) �
 
 -- ---- a word behind the last element
 
-behind : (r : Reading) (i : ℕ) → count_of r ≤ i → is_active r i ≡ false
+pub behind : (r : Reading) (i : ℕ) → count_of r ≤ i → is_active r i ≡ false
 behind r i h = ap (λ b. (leb r.at.vstart i && b) && (is_unmasked r || mask_bit r i)) (le-ltb i (count_of r) h) ∙ and_none (leb r.at.vstart i) (is_unmasked r || mask_bit r i)
 
 pub kept_value : Whole → Same → (r : Reading) (w old : ℕ) → IsTrue (is_each (rule_of r.family)) → IsTrue (is_width (destination_width r)) → count_of r ≤ w * per_word r → old < 2 ^ 64 → old ≡ word_at r.at.vlen r.words r.places.vd w → old ≡ made_word r w
@@ -192,7 +192,7 @@ made_are element r w at from new width count sources is = record {
         ∙ truth_bit (answer r.family (numbers_of (sew_of r) r.at.vxrm (lane_of at from k))).sat
         ∙ (λ i. (answers k l i).sat)
 
-zero_lane : (k : ℕ) → nat_eq (lane 1 0 k) 1 ≡ false
+pub zero_lane : (k : ℕ) → nat_eq (lane 1 0 k) 1 ≡ false
 zero_lane k = let e : lane 1 0 k ≡ 0 = grind arith in ap (λ x. nat_eq x 1) e
 
 -- new elements that are those of a word

@@ -1,4 +1,4 @@
-ghost use Rattle.std.specs.Prelude.{◌≡◌, List, ℕ, IsTrue};
+ghost use Rattle.std.specs.Prelude.{◌≡◌, List, ℕ, IsTrue, if◌then◌else◌};
 ghost use Rattle.vx_bits.specs.Width.{is_width};
 ghost use Rattle.vx_operands.specs.Forms.{reading};
 ghost use Rattle.vx_vector.specs.Numbers.{is_less_at, plain};
@@ -45,4 +45,22 @@ pub fn is_less(width: u32, a: u64, b: u64) -> bool
     ensures { result ≡ is_less_at width a b }
 {
     signed_reading(width, a) < signed_reading(width, b)
+}
+
+/// The lesser of two signed numbers of a width.
+#[inline(always)]
+pub fn lesser(width: u32, a: u64, b: u64) -> u64
+    requires { IsTrue (is_width width) }
+    ensures { result ≡ (if is_less_at width b a then b else a) }
+{
+    if is_less(width, b, a) { b } else { a }
+}
+
+/// The greater of two signed numbers of a width.
+#[inline(always)]
+pub fn greater(width: u32, a: u64, b: u64) -> u64
+    requires { IsTrue (is_width width) }
+    ensures { result ≡ (if is_less_at width a b then b else a) }
+{
+    if is_less(width, a, b) { b } else { a }
 }

@@ -6,12 +6,18 @@
 //! instruction leaves in its place.
 #![tactic(auto)]
 
+mod active;
+mod first;
 mod form;
 mod grouped;
 mod merged;
+mod moved_by;
 mod sources;
 
-pub use form::{Form, is_less, is_unmasked, plain};
+pub use active::{active_word, has_few_elements, is_bit_set, lane_at, ones};
+pub use first::{first_set, writes_first};
+pub use form::{Form, greater, is_less, is_unmasked, lesser, plain};
 pub use grouped::{moved_word, whole_word, wide_word};
 pub use merged::{even_word, kept, merged_word};
-pub use sources::{group_word, mask_word, part, second_part, second_word};
+pub use moved_by::{moved_by_index, unchanged};
+pub use sources::{group_word, has_a_word, mask_word, part, second_part, second_word};

@@ -1,0 +1,4 @@
+pub mod Families
+pub mod Bitwise
+pub mod Marked
+pub mod Folds
