@@ -12,7 +12,7 @@ pub record BanksView : Type 0 where
   pub bank_time : ℕ
   -- the accesses that wait, in the order in which they were offered
   pub queued : List Queued
-  -- the cycle of each bank's last serve
+  -- the cycle of each bank's last serve: a list of 16 places, for any number of banks
   pub served : List (Option ℕ)
 
 -- a word lies in the bank of that number: words go round the banks

@@ -144,7 +144,11 @@ impl Cells for LogCells {
         self.is_over = note(&mut self.entries, self.room, self.is_over, access);
     }
 
-    fn advance(&mut self, to: u64) {
+    fn advance(&mut self, to: u64)
+        requires { self.old.cycle ≤ to }
+        ensures told { log_cells_told self.new ≡ record (log_cells_told self.old) { cycle = to } }
+        ensures exact { self.new ≡ record self.old { cycle = to } }
+    {
         self.cycle = to;
     }
 }

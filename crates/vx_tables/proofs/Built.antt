@@ -1,8 +1,8 @@
 -- Tables that are built frame after frame.
-use Rattle.std.proofs.Common.{◌≡◌, ℕ, zero, suc, ◌+◌, ◌-◌, ◌*◌, ◌/◌, ◌%◌, ◌^◌, ◌<◌, ◌≤◌, ◌≢◌, Bool, true, false, cond, eqb, leb, ltb, inl, inr, List, [], ◌∷◌, ◌++◌, length, get_or, set, Some, None, map, refl, sym, ap, subst, lit<, ◌∙◌, arith, append_assoc, append-nil, get_or-set_same, get_or-set_other, length-set}
-use Rattle.std.specs.Prelude.{filter, Option, option_map, IfSome, slice_index, ◌&&◌, ◌==◌, nat_le, nat_lt, if◌then◌else◌, ◌⊎◌, All}
+use Rattle.std.proofs.Common.{◌≡◌, ℕ, zero, suc, ◌+◌, ◌-◌, ◌*◌, ◌/◌, ◌%◌, ◌^◌, ◌<◌, ◌≤◌, ◌≢◌, Bool, true, false, cond, eqb, leb, ltb, inl, inr, List, [], ◌∷◌, ◌++◌, length, get_or, set, Some, None, refl, sym, ap, subst, lit<, ◌∙◌, arith, append_assoc, append-nil, get_or-set_same, get_or-set_other, length-set}
+use Rattle.std.specs.Prelude.{filter, Option, option_map, IfSome, ◌&&◌, nat_le, nat_lt, if◌then◌else◌, All}
 use Rattle.std.specs.Option.{option_map_or}
-use Rattle.std.proofs.lemmas.Bool.{cases_Bool, cases_lt, eqb-true, eq-eqb, ne_eqb, lt-ltb, le-leb, lt-leb, le-ltb, false≢true}
+use Rattle.std.proofs.lemmas.Bool.{cases_Bool, cases_lt, eqb-true, eq-eqb, ne_eqb, lt-ltb, le-leb, le-ltb, false≢true}
 use Rattle.std.proofs.Math.Bool.{or-true}
 use Rattle.std.proofs.lemmas.Nat.{div_below}
 use Rattle.vx_base.specs.Pages.{IsPageList, IsMapped}
@@ -13,14 +13,13 @@ use Rattle.vx_cells.specs.declared.access.Access.{Access}
 use Rattle.vx_image.specs.Tables.{distinct_count}
 use Rattle.vx_tables.specs.Building.{Builds, IsFrom, kernel_write, kernel_writes, pointer_for, table_writes}
 use Rattle.vx_tables.specs.Entries.{pointer, page_entry}
-use Rattle.vx_tables.specs.Residency.{Place, PlacedPage, Residency, pages_of, placed, place_at_boot, at_boot, IsBelow, AreBelow}
-use Rattle.vx_tables.specs.Residency.Place.{Away, Present}
-use Rattle.vx_tables.specs.Tables.{gib, mib2, regions, has_region, region_total, regions_below, leaf_entry, root_entry, second_entry, entry_in, table_word, table_count, second_frame, leaf_frame, Stand, SameBut}
+use Rattle.vx_tables.specs.Residency.{Place, PlacedPage, Residency, pages_of, placed, place_at_boot, at_boot, AreBelow}
+use Rattle.vx_tables.specs.Tables.{gib, mib2, regions, has_region, region_total, regions_below, leaf_entry, entry_in, table_word, table_count, second_frame, leaf_frame}
 use Rattle.vx_tables.proofs.Decoded.{permission_small, page_entry-frame}
 use Rattle.vx_tables.proofs.Descents.{placed-mapped}
 use Rattle.vx_tables.proofs.Held.{placed-below, IsMemory-after}
-use Rattle.vx_tables.proofs.Places.{table_word-frame, table_word-root, table_word-second, table_word-leaf, second_frame-within, leaf_frame-within}
-use Rattle.vx_tables.proofs.Regions.{isin, below, below-step, below-bound}
+use Rattle.vx_tables.proofs.Places.{table_word-root, table_word-second, table_word-leaf, second_frame-within, leaf_frame-within}
+use Rattle.vx_tables.proofs.Regions.{below, below-step}
 
 -- writes of the same values are the same
 pub kernel_writes-same : (cycle start : ℕ) (v w : ℕ → ℕ) (count : ℕ) → ((i : ℕ) → i < count → v i ≡ w i) → kernel_writes cycle start v count ≡ kernel_writes cycle start w count
@@ -107,7 +106,7 @@ all-below size limit pages listed few =
     ap distinct_count (lower_each size limit pages listed.mapped (positive size limit few) (omega (arith, few)))
 
 -- a region of 2 MiB that has a page lies in one of 1 GiB that does
-inner : (region i : ℕ) (pages : List PageEntry) → i < 512 → has_region mib2 (512 * region + i) pages ≡ true → has_region gib region pages ≡ true
+pub inner : (region i : ℕ) (pages : List PageEntry) → i < 512 → has_region mib2 (512 * region + i) pages ≡ true → has_region gib region pages ≡ true
 inner region i [] lt is = absurd (false≢true is)
 inner region i (e ∷ pages) lt is =
     elim (cases_Bool (eqb (e.page / mib2) (512 * region + i))) [

@@ -1,16 +1,15 @@
 -- Entries as they are built, read again.
-use Rattle.std.proofs.Common.{◌≡◌, ◌≢◌, ℕ, zero, suc, ◌+◌, ◌*◌, ◌/◌, ◌%◌, ◌<◌, ◌≤◌, Bool, true, false, cond, eqb, inl, inr, Some, None, refl, sym, ap, lit<, ◌∙◌, arith}
-use Rattle.std.specs.Prelude.{◌⊎◌, bit_and, bit_or, IsTrue, Option, ◌||◌, ◌&&◌, not, ◌==◌, if◌then◌else◌}
-use Rattle.std.proofs.lemmas.Bool.{cases_Bool, cases_lt, eqb-true, eq-eqb, ne_eqb, false≢true}
+use Rattle.std.proofs.Common.{◌≡◌, ℕ, zero, suc, ◌+◌, ◌*◌, ◌<◌, ◌≤◌, Bool, true, false, eqb, inl, inr, Some, None, refl, sym, ap, lit<, ◌∙◌, arith}
+use Rattle.std.specs.Prelude.{◌⊎◌, bit_or, IsTrue, Option, ◌||◌, if◌then◌else◌}
+use Rattle.std.proofs.lemmas.Bool.{cases_Bool, cases_lt, eqb-true, ne_eqb, false≢true}
 use Rattle.vx_base.specs.Pages.{is_page_permission}
 use Rattle.vx_base.specs.Permissions.{grants}
 use Rattle.vx_base.specs.declared.machine.Want.{Want}
 use Rattle.vx_base.specs.declared.machine.Want.TheVariants.{Fetch, Load, Store}
-use Rattle.vx_tables.specs.Entries.{pointer, page_bits, page_entry, frame_in, bits_in, has, is_pointer, permissions_in, lets, leaf_answer, leaf_touched, leaf_written}
+use Rattle.vx_tables.specs.Entries.{pointer, page_bits, page_entry, frame_in, bits_in, has, is_pointer, permissions_in, leaf_answer, leaf_touched, leaf_written}
 use Rattle.vx_tables.specs.Residency.{Place, is_store, found_at, touched, IsBelow}
 use Rattle.vx_tables.specs.Residency.Place.{Away, Present}
-use Rattle.vx_tables.specs.declared.walked.Walked.{Walked}
-use Rattle.vx_tables.specs.declared.walked.Walked.TheVariants as walked
+use Rattle.vx_tables.specs.Walking.{PlacesAgree}
 
 -- what the bits of a page say
 record BitsSay (bits : ℕ) (a d : Bool) : Type 0 where
@@ -129,6 +128,43 @@ leaf_written-entry bits want (Present frame a d) small =
             rw (not_away frame (page_bits bits a d) say.small, differs, bits_part frame (page_bits bits a d) low, say.valid, say.permissions, granted) refl in
             rw granted (inl (some ∙ ap Some new))
       ]
+    ]
+
+-- the same of a place that agrees with what a walk has seen
+touched-granted : (bits : ℕ) (want : Want) (frame : ℕ) (a d : Bool) → grants bits want ≡ true → touched bits want (Present frame a d) ≡ Present frame true (d || is_store want)
+touched-granted bits want frame a d granted = rw granted refl
+
+set_before : (bits frame : ℕ) (a d s : Bool) → 1024 * frame + page_bits bits true (d || s) ≡ 1024 * frame + page_bits bits a d → a ≡ true
+set_before bits frame true d s is = refl
+set_before bits frame false true s is = absurd (omega (arith, is))
+set_before bits frame false false true is = absurd (omega (arith, is))
+set_before bits frame false false false is = absurd (omega (arith, is))
+
+pub leaf_written-late : (bits : ℕ) (want : Want) (seen now : Place) → bits < 8 → PlacesAgree bits want seen now → Writes bits want now (leaf_written want (page_entry bits seen))
+leaf_written-late bits want Away Away small agree = inr (refl, refl)
+leaf_written-late bits want Away (Present g b e) small agree = absurd agree
+leaf_written-late bits want (Present f a d) Away small agree = absurd agree
+leaf_written-late bits want (Present f a d) (Present g b e) small agree =
+    elim (cases_Bool (grants bits want)) [
+      | inr fails ↦
+          let say = all_bits bits a d small in
+          let low : page_bits bits a d < 1024 = omega (arith, say.small) in
+          rw (not_away f (page_bits bits a d) say.small, bits_part f (page_bits bits a d) low, say.valid, say.permissions, fails) (inr (refl, refl))
+      | inl granted ↦
+          let same_frame : g ≡ f = agree.0 in
+          let same_dirty : e ≡ d = agree.1.1 granted in
+          let then_is : touched bits want (Present f a d) ≡ Present f true (d || is_store want) = touched-granted bits want f a d granted in
+          let now_is : touched bits want (Present g b e) ≡ Present f true (d || is_store want) =
+          touched-granted bits want g b e granted ∙ rw (same_frame, same_dirty) refl in
+          elim (leaf_written-entry bits want (Present f a d) small) [
+            | inl some ↦ inl (some ∙ ap (λ (place : Place). Some (page_entry bits place)) (then_is ∙ sym now_is))
+            | inr stays ↦
+                let is : page_entry bits (Present f true (d || is_store want)) ≡ page_entry bits (Present f a d) = ap (page_entry bits) (sym then_is) ∙ stays.1 in
+                let set : a ≡ true = set_before bits f a d (is_store want) is in
+                let set_now : b ≡ true = agree.1.0 set in
+                let same : Present f a d ≡ Present g b e = rw (set, set_now, same_frame, same_dirty) refl in
+                inr (stays.0, ap (page_entry bits) now_is ∙ is ∙ ap (page_entry bits) same)
+          ]
     ]
 
 -- an entry of a frame below 2 ^ 14 is small

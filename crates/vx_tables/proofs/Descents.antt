@@ -1,21 +1,22 @@
 -- The walk through tables, level by level.
-use Rattle.std.proofs.Common.{◌≡◌, ℕ, zero, suc, ◌+◌, ◌-◌, ◌*◌, ◌/◌, ◌%◌, ◌^◌, ◌<◌, ◌≤◌, ◌≢◌, Bool, true, false, cond, eqb, leb, inl, inr, List, [], ◌∷◌, length, get_or, set, Some, None, map, refl, sym, ap, subst, ◌∙◌, arith}
-use Rattle.std.specs.Prelude.{Option, option_map, slice_index, ◌==◌, ◌||◌, if◌then◌else◌, ◌⊎◌, All}
+use Rattle.std.proofs.Common.{◌≡◌, ℕ, suc, ◌+◌, ◌-◌, ◌*◌, ◌/◌, ◌%◌, ◌^◌, ◌<◌, ◌≤◌, true, eqb, inl, inr, List, [], ◌∷◌, length, get_or, set, Some, None, refl, sym, ap, subst, ◌∙◌, arith}
+use Rattle.std.specs.Prelude.{Option, option_map, IfSome, if◌then◌else◌, All}
 use Rattle.std.specs.Option.{option_map_or}
-use Rattle.std.proofs.lemmas.Bool.{cases_Bool, cases_lt, eqb-true, eq-eqb, ne_eqb, false≢true}
+use Rattle.std.proofs.lemmas.Bool.{cases_Bool, eqb-true, false≢true}
 use Rattle.std.proofs.lemmas.List.{set-get_or}
 use Rattle.vx_base.specs.Numbers.{field}
 use Rattle.vx_base.specs.Pages.{IsPageList, IsMapped}
 use Rattle.vx_base.specs.declared.machine.Want.{Want}
 use Rattle.vx_base.specs.declared.perm.PageEntry.{PageEntry}
-use Rattle.vx_tables.specs.Entries.{pointer, page_entry, frame_in, is_pointer, leaf_answer, leaf_written}
-use Rattle.vx_tables.specs.Residency.{Place, PlacedPage, Residency, pages_of, page_of, placed, with_place, found_at, touched, page_map, after_walk}
-use Rattle.vx_tables.specs.Tables.{gib, mib2, regions, has_region, region_total, regions_below, table_count, second_frame, leaf_frame, root_entry, second_entry, leaf_entry, table_word, leaf_word, Stand}
+use Rattle.vx_tables.specs.Entries.{pointer, page_entry, leaf_answer, leaf_written}
+use Rattle.vx_tables.specs.Residency.{Place, PlacedPage, Residency, pages_of, page_of, placed, with_place, found_at, touched, page_map, after_walk, AreBelow}
+use Rattle.vx_tables.specs.Tables.{gib, mib2, has_region, table_count, second_frame, leaf_frame, root_entry, second_entry, leaf_entry, table_word, leaf_word, Stand}
 use Rattle.vx_tables.specs.declared.stage.TableEntry.{TableEntry}
+use Rattle.vx_tables.specs.Walking.{PlacesAgree, PagesAgree, Agree}
 use Rattle.vx_tables.specs.Walks.{Walk, is_canonical, entry_word, refused, reading, leaf_walk, walk_from, walk, table_walk, with_entry}
-use Rattle.vx_tables.specs.declared.walked.Walked.{Walked}
 use Rattle.vx_tables.specs.declared.walked.Walked.TheVariants as walked
-use Rattle.vx_tables.proofs.Decoded.{permission_small, is_pointer-pointer, frame_in-pointer, leaf_answer-entry, leaf_written-entry}
+use Rattle.vx_tables.proofs.Decoded.{permission_small, is_pointer-pointer, frame_in-pointer, leaf_answer-entry, leaf_written-late, page_entry-frame, Writes}
+use Rattle.vx_tables.proofs.Held.{placed-below, IsBelow-touched}
 use Rattle.vx_tables.proofs.Moving.{placed-listed, placed-region, Stand-moved}
 use Rattle.vx_tables.proofs.Places.{table_word-root, table_word-second, table_word-leaf, second_frame-within, leaf_frame-within}
 
@@ -237,54 +238,91 @@ table_walk-answer root address want residency listed =
         ∙ sym (ap (λ (o : Option PlacedPage). option_map_or (λ (q : PlacedPage). found_at q.entry.perm.bits want q.place) o walked.Denied) none)
     by_page (Some p) is = mapped-answer residency root address want listed p is
 
--- the tables once the entry is written
-module _ (contents : List ℕ) (residency : Residency) (root address : ℕ) (want : Want) (stand : Stand contents root residency) (room : 512 * (root + table_count (pages_of residency)) ≤ length contents) where
+-- the tables once the entry is written that a walk writes which has seen a residency that agrees with theirs
+module _ (contents : List ℕ) (seen residency : Residency) (root address : ℕ) (want : Want) (agree : Agree address want seen residency) (stand : Stand contents root residency) (room : 512 * (root + table_count (pages_of residency)) ≤ length contents) where
   abbrev there : ℕ
   there = leaf_word root (pages_of residency) (page_of address)
 
-  module _ (p : PlacedPage) (is : placed (page_of address) residency ≡ Some p) where
+  seen_listed : IsPageList (pages_of seen)
+  seen_listed = subst IsPageList agree.pages stand.listed
+
+  module _ (q : PlacedPage) (is : placed (page_of address) residency ≡ Some q) where
     -- the leaf as it stands
-    kept : get_or contents there 0 ≡ page_entry p.entry.perm.bits p.place
+    kept : get_or contents there 0 ≡ page_entry q.entry.perm.bits q.place
     kept =
-        let mega = placed-region mib2 (page_of address) residency p is in
+        let mega = placed-region mib2 (page_of address) residency q is in
         let lt : page_of address % mib2 < 512 = omega arith in
         let frame = leaf_frame-within root (page_of address / mib2) (pages_of residency) mega in
         let split : 512 * (page_of address / mib2) + page_of address % mib2 ≡ page_of address = omega arith in
         stand.each there (omega arith) (omega (arith, frame))
         ∙ table_word-leaf residency root (page_of address / mib2) (page_of address % mib2) mega lt
         ∙ ap (leaf_entry residency) split
-        ∙ leaf_is residency root address want stand.listed p is
+        ∙ leaf_is residency root address want stand.listed q is
 
-    moves : (place : Place) → Stand (set contents there (page_entry p.entry.perm.bits place)) root (with_place (page_of address) place residency)
-    moves place = Stand-moved contents root (page_of address) residency p place is room stand
+    moves : (place : Place) → Stand (set contents there (page_entry q.entry.perm.bits place)) root (with_place (page_of address) place residency)
+    moves place = Stand-moved contents root (page_of address) residency q place is room stand
 
-    by_written : (written : Option ℕ) → leaf_written want (page_entry p.entry.perm.bits p.place) ≡ written → Stand (with_entry (option_map (λ (v : ℕ). record { word = there; value = v }) written) contents) root (with_place (page_of address) (touched p.entry.perm.bits want p.place) residency)
-    by_written written e =
-        let place : Place = touched p.entry.perm.bits want p.place in
-        elim (leaf_written-entry p.entry.perm.bits want p.place (few_bits residency root address want stand.listed p is)) [
-          | inl some ↦
-              let these : written ≡ Some (page_entry p.entry.perm.bits place) = sym e ∙ some in
-              rw these (moves place)
+    by_written : (written : Option ℕ) → Writes q.entry.perm.bits want q.place written → Stand (with_entry (option_map (λ (v : ℕ). record { word = there; value = v }) written) contents) root (with_place (page_of address) (touched q.entry.perm.bits want q.place) residency)
+    by_written written writes =
+        let place : Place = touched q.entry.perm.bits want q.place in
+        elim writes [
+          | inl some ↦ rw some (moves place)
           | inr stays ↦
-              let these : written ≡ None = sym e ∙ stays.0 in
-              let same : set contents there (page_entry p.entry.perm.bits place) ≡ contents =
+              let same : set contents there (page_entry q.entry.perm.bits place) ≡ contents =
               ap (set contents there) (stays.1 ∙ sym kept) ∙ set-get_or contents there 0 in
-              rw these (subst (λ (ws : List ℕ). Stand ws root (with_place (page_of address) place residency)) same (moves place))
+              rw stays.0 (subst (λ (ws : List ℕ). Stand ws root (with_place (page_of address) place residency)) same (moves place))
         ]
 
-    pub Stand-mapped : Stand (with_entry (expected residency root address want).write contents) root (with_place (page_of address) (touched p.entry.perm.bits want p.place) residency)
-    Stand-mapped =
-        subst (λ (w : Option TableEntry). Stand (with_entry w contents) root (with_place (page_of address) (touched p.entry.perm.bits want p.place) residency))
-        (sym (mapped residency root address want stand.listed p is).1)
-        (by_written (leaf_written want (page_entry p.entry.perm.bits p.place)) refl)
+    module _ (p : PlacedPage) (was : placed (page_of address) seen ≡ Some p) (same : q.entry ≡ p.entry) (places : PlacesAgree p.entry.perm.bits want p.place q.place) where
+      pub writes-seen : Writes q.entry.perm.bits want q.place (leaf_written want (page_entry p.entry.perm.bits p.place))
+      writes-seen =
+          subst (λ (e : PageEntry). Writes e.perm.bits want q.place (leaf_written want (page_entry p.entry.perm.bits p.place))) (sym same)
+          (leaf_written-late p.entry.perm.bits want p.place q.place (few_bits seen root address want seen_listed p was) places)
 
-  by_place : (o : Option PlacedPage) → placed (page_of address) residency ≡ o → Stand (with_entry (expected residency root address want).write contents) root (option_map_or (λ (p : PlacedPage). with_place (page_of address) (touched p.entry.perm.bits want p.place) residency) o residency)
-  by_place None none =
-      subst (λ (w : Option TableEntry). Stand (with_entry w contents) root residency) (sym (unmapped residency root address want stand.listed none).1) stand
-  by_place (Some p) is = Stand-mapped p is
+      write-is : (expected seen root address want).write ≡ option_map (λ (v : ℕ). record { word = there; value = v }) (leaf_written want (page_entry p.entry.perm.bits p.place))
+      write-is =
+          (mapped seen root address want seen_listed p was).1
+          ∙ ap (λ (ps : List PageEntry). option_map (λ (v : ℕ). record { word = leaf_word root ps (page_of address); value = v }) (leaf_written want (page_entry p.entry.perm.bits p.place))) (sym agree.pages)
 
-  pub Stand-after_walk : Stand (with_entry (table_walk residency root address want).write contents) root (after_walk residency address want)
+      pub Stand-mapped : Stand (with_entry (expected seen root address want).write contents) root (with_place (page_of address) (touched q.entry.perm.bits want q.place) residency)
+      Stand-mapped =
+          subst (λ (w : Option TableEntry). Stand (with_entry w contents) root (with_place (page_of address) (touched q.entry.perm.bits want q.place) residency))
+          (sym write-is)
+          (by_written (leaf_written want (page_entry p.entry.perm.bits p.place)) writes-seen)
+
+  by_place : (o u : Option PlacedPage) → placed (page_of address) seen ≡ o → placed (page_of address) residency ≡ u → PagesAgree want o u → Stand (with_entry (expected seen root address want).write contents) root (option_map_or (λ (p : PlacedPage). with_place (page_of address) (touched p.entry.perm.bits want p.place) residency) u residency)
+  by_place None None none now is =
+      subst (λ (w : Option TableEntry). Stand (with_entry w contents) root residency) (sym (unmapped seen root address want seen_listed none).1) stand
+  by_place None (Some q) none now is = absurd is
+  by_place (Some p) None was none is = absurd is
+  by_place (Some p) (Some q) was now is = Stand-mapped q now p was is.0 is.1
+
+  pub Stand-after_walk : Stand (with_entry (table_walk seen root address want).write contents) root (after_walk residency address want)
   unfolding after_walk
   Stand-after_walk =
-      subst (λ (w : Walk). Stand (with_entry w.write contents) root (after_walk residency address want)) (sym (table_walk-expected residency root address want))
-      (by_place (placed (page_of address) residency) refl)
+      subst (λ (w : Walk). Stand (with_entry w.write contents) root (after_walk residency address want)) (sym (table_walk-expected seen root address want))
+      (by_place (placed (page_of address) seen) (placed (page_of address) residency) refl refl agree.page)
+
+  -- what it writes is small where the pages are in few frames
+  by_value : (frames : ℕ) → frames ≤ 16384 → AreBelow frames residency → (o u : Option PlacedPage) → placed (page_of address) seen ≡ o → placed (page_of address) residency ≡ u → PagesAgree want o u → IfSome (expected seen root address want).write (λ (e : TableEntry). e.value < 2 ^ 64)
+  by_value frames few below None None none now is = rw (unmapped seen root address want seen_listed none).1 tt
+  by_value frames few below None (Some q) none now is = absurd is
+  by_value frames few below (Some p) None was none is = absurd is
+  by_value frames few below (Some p) (Some q) was now is =
+      rw (mapped seen root address want seen_listed p was).1 (go (leaf_written want (page_entry p.entry.perm.bits p.place)) (writes-seen q now p was is.0 is.1) _)
+    where
+      go : (written : Option ℕ) → Writes q.entry.perm.bits want q.place written → (word : ℕ) → IfSome (option_map (λ (v : ℕ). record { word = word; value = v }) written) (λ (e : TableEntry). e.value < 2 ^ 64)
+      go None writes word = tt
+      go (Some v) writes word =
+          elim writes [
+            | inl some ↦
+                let these : v ≡ page_entry q.entry.perm.bits (touched q.entry.perm.bits want q.place) = cc some in
+                let within = IsBelow-touched frames q.entry.perm.bits want q.place (placed-below frames (page_of address) residency q below now) in
+                omega (arith, these, page_entry-frame q.entry.perm.bits frames (touched q.entry.perm.bits want q.place) (few_bits residency root address want stand.listed q now) few within)
+            | inr stays ↦ absurd (cc stays.0)
+          ]
+
+  pub small-write : (frames : ℕ) → frames ≤ 16384 → AreBelow frames residency → IfSome (table_walk seen root address want).write (λ (e : TableEntry). e.value < 2 ^ 64)
+  small-write frames few below =
+      subst (λ (w : Walk). IfSome w.write (λ (e : TableEntry). e.value < 2 ^ 64)) (sym (table_walk-expected seen root address want))
+      (by_value frames few below (placed (page_of address) seen) (placed (page_of address) residency) refl refl agree.page)

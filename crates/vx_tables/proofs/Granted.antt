@@ -1,5 +1,5 @@
 -- The page map of a residency against the memory that it is of.
-use Rattle.std.proofs.Common.{◌≡◌, ℕ, ◌+◌, ◌/◌, ◌^◌, Bool, true, false, cond, eqb, inl, inr, List, [], ◌∷◌, Some, None, map, refl, sym, ap, subst, ◌∙◌, arith}
+use Rattle.std.proofs.Common.{◌≡◌, ℕ, ◌+◌, ◌/◌, ◌^◌, Bool, true, false, eqb, inl, inr, List, [], ◌∷◌, Some, None, map, refl, sym, ap, subst, ◌∙◌}
 use Rattle.std.specs.Prelude.{Option, option_map, ◌&&◌, if◌then◌else◌}
 use Rattle.std.specs.Option.{option_map_or}
 use Rattle.std.proofs.lemmas.Bool.{cases_Bool}
@@ -13,7 +13,7 @@ use Rattle.vx_base.specs.declared.perm.PageEntry.{PageEntry}
 use Rattle.vx_image.specs.Images.{entry_of_page}
 use Rattle.vx_image.specs.Pages.{MappedPage, Memory, page_numbered}
 use Rattle.vx_image.specs.Tables.{distinct_count, table_frames}
-use Rattle.vx_tables.specs.Residency.{Place, PlacedPage, Residency, IsOf, pages_of, page_of, placed, found_at, is_store, page_map, is_granted}
+use Rattle.vx_tables.specs.Residency.{Place, PlacedPage, Residency, IsOf, pages_of, page_of, placed, found_at, page_map, is_granted}
 use Rattle.vx_tables.specs.Residency.Place.{Away, Present}
 use Rattle.vx_tables.specs.Tables.{regions, table_count}
 use Rattle.vx_tables.specs.declared.walked.Walked.{Walked}

@@ -1,19 +1,16 @@
 -- Cells that hold tables, and what accesses leave of them.
-use Rattle.std.proofs.Common.{◌≡◌, ℕ, zero, suc, ◌+◌, ◌-◌, ◌*◌, ◌/◌, ◌%◌, ◌^◌, ◌<◌, ◌≤◌, ◌≢◌, Bool, true, false, cond, eqb, leb, ltb, inl, inr, List, [], ◌∷◌, ◌++◌, length, get_or, set, Some, None, map, refl, sym, ap, subst, ◌∙◌, arith, get_or-set_other, length-set}
-use Rattle.std.specs.Prelude.{Option, option_map, IfSome, slice_index, ◌&&◌, ◌==◌, nat_le, nat_lt, if◌then◌else◌, ◌⊎◌, All}
-use Rattle.std.specs.Option.{option_map_or, option_to_list}
-use Rattle.std.proofs.lemmas.Bool.{cases_Bool, cases_lt, eqb-true, lt-ltb, le-leb, false≢true}
+use Rattle.std.proofs.Common.{◌≡◌, ℕ, zero, suc, ◌*◌, Bool, true, false, eqb, inl, inr, List, [], ◌∷◌, length, get_or, set, Some, None, refl, sym, ap, subst, ◌∙◌, arith, length-set}
+use Rattle.std.specs.Prelude.{Option, if◌then◌else◌}
+use Rattle.std.specs.Option.{option_map_or}
+use Rattle.std.proofs.lemmas.Bool.{cases_Bool}
 use Rattle.vx_base.specs.declared.machine.Want.{Want}
 use Rattle.vx_base.specs.Permissions.{grants}
 use Rattle.vx_cells.specs.Cells.{CellsState, IsMemory, Makes, with_access, with_accesses}
 use Rattle.vx_cells.specs.Merging.{merged}
 use Rattle.vx_cells.specs.declared.access.Access.{Access}
-use Rattle.vx_cells.specs.declared.access.Port.{Port}
-use Rattle.vx_tables.specs.Residency.{Place, PlacedPage, Residency, pages_of, page_of, placed, moved, with_place, touched, after_walk, IsBelow, AreBelow}
+use Rattle.vx_tables.specs.Residency.{Place, PlacedPage, Residency, pages_of, page_of, placed, with_place, touched, after_walk, IsBelow, AreBelow}
 use Rattle.vx_tables.specs.Residency.Place.{Away, Present}
-use Rattle.vx_tables.specs.Tables.{Stand, AreHeld, SameBut, table_count}
-use Rattle.vx_tables.specs.Walks.{with_entry, written_entry}
-use Rattle.vx_tables.specs.declared.stage.TableEntry.{TableEntry}
+use Rattle.vx_tables.specs.Tables.{Stand, AreHeld, table_count}
 use Rattle.vx_tables.proofs.Moving.{pages_of-with_place}
 
 -- a page that moves to a frame below stays below

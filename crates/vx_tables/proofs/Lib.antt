@@ -1,3 +1,4 @@
+pub mod Agreeing
 pub mod Built
 pub mod Decoded
 pub mod Granted

@@ -1,18 +1,16 @@
 -- What the move of one page changes in the tables.
-use Rattle.std.proofs.Common.{◌≡◌, ℕ, zero, suc, ◌+◌, ◌-◌, ◌*◌, ◌/◌, ◌%◌, ◌<◌, ◌≤◌, ◌≢◌, Bool, true, false, cond, eqb, leb, inl, inr, List, [], ◌∷◌, length, get_or, set, Some, None, map, refl, sym, ap, subst, ◌∙◌, arith, get_or-set_same, get_or-set_other}
-use Rattle.std.specs.Prelude.{Option, option_map, slice_set, ◌==◌, if◌then◌else◌, ◌⊎◌}
+use Rattle.std.proofs.Common.{◌≡◌, ℕ, zero, suc, ◌+◌, ◌-◌, ◌*◌, ◌/◌, ◌%◌, ◌<◌, ◌≤◌, ◌≢◌, true, false, eqb, inl, inr, List, [], ◌∷◌, length, get_or, set, Some, refl, sym, ap, subst, ◌∙◌, arith, get_or-set_same, get_or-set_other}
+use Rattle.std.specs.Prelude.{Option}
 use Rattle.std.specs.Option.{option_map_or}
-use Rattle.std.specs.List.{list_any}
-use Rattle.std.proofs.lemmas.Bool.{cases_Bool, cases_lt, eqb-true, eq-eqb, ne_eqb, le-leb, lt-leb, false≢true}
+use Rattle.std.proofs.lemmas.Bool.{cases_Bool, cases_lt, eqb-true, eq-eqb, ne_eqb, false≢true}
 use Rattle.std.proofs.Math.Bool.{or-true}
 use Rattle.vx_base.specs.Pages.{IsPageList}
 use Rattle.vx_base.specs.declared.perm.PageEntry.{PageEntry}
-use Rattle.vx_image.specs.Tables.{distinct_count}
 use Rattle.vx_tables.specs.Entries.{page_entry}
-use Rattle.vx_tables.specs.Residency.{Place, PlacedPage, Residency, pages_of, placed, moved, with_place}
-use Rattle.vx_tables.specs.Tables.{gib, mib2, regions, has_region, region_total, regions_below, region_after, table_count, second_frame, leaf_frame, root_entry, second_entry, leaf_entry, entry_in, table_word, leaf_word, Stand}
-use Rattle.vx_tables.proofs.Regions.{after-below, below-after, below-within, below-same}
-use Rattle.vx_tables.proofs.Places.{table_word-frame, entry_in-root, entry_in-second, entry_in-leaf, frame_of_word, place_of_word}
+use Rattle.vx_tables.specs.Residency.{Place, PlacedPage, Residency, pages_of, placed, with_place}
+use Rattle.vx_tables.specs.Tables.{gib, mib2, regions, has_region, region_total, regions_below, region_after, table_count, root_entry, second_entry, leaf_entry, entry_in, leaf_word, Stand}
+use Rattle.vx_tables.proofs.Regions.{below-after, below-within, below-same}
+use Rattle.vx_tables.proofs.Places.{entry_in-root, entry_in-second, entry_in-leaf}
 
 module _ (number : ℕ) (place : Place) where
   -- the pages stay
@@ -25,7 +23,7 @@ module _ (number : ℕ) (place : Place) where
       ]
 
   -- every other page is where it was
-  placed-other : (n : ℕ) (residency : Residency) → n ≢ number → placed n (with_place number place residency) ≡ placed n residency
+  pub placed-other : (n : ℕ) (residency : Residency) → n ≢ number → placed n (with_place number place residency) ≡ placed n residency
   placed-other n [] apart = refl
   placed-other n (p ∷ residency) apart =
       elim (cases_Bool (eqb p.entry.page number)) [
@@ -38,7 +36,7 @@ module _ (number : ℕ) (place : Place) where
         ]
       ]
 
-  placed-same : (residency : Residency) (p : PlacedPage) → placed number residency ≡ Some p → placed number (with_place number place residency) ≡ Some (record p { place = place })
+  pub placed-same : (residency : Residency) (p : PlacedPage) → placed number residency ≡ Some p → placed number (with_place number place residency) ≡ Some (record p { place = place })
   placed-same [] p is = absurd (cc is)
   placed-same (q ∷ residency) p is =
       elim (cases_Bool (eqb q.entry.page number)) [

@@ -1,14 +1,10 @@
 -- Which entry stands in which word of the tables.
-use Rattle.std.proofs.Common.{◌≡◌, ℕ, zero, suc, ◌+◌, ◌-◌, ◌*◌, ◌/◌, ◌%◌, ◌<◌, ◌≤◌, ◌≢◌, Bool, true, false, cond, eqb, leb, inl, inr, List, [], ◌∷◌, Some, None, map, refl, sym, ap, subst, ◌∙◌, arith}
-use Rattle.std.specs.Prelude.{Option, option_map, ◌==◌, if◌then◌else◌}
-use Rattle.std.specs.Option.{option_map_or}
-use Rattle.std.proofs.lemmas.Bool.{cases_Bool, cases_lt, eqb-true, eq-eqb, ne_eqb, le-leb, lt-leb, false≢true}
+use Rattle.std.proofs.Common.{◌≡◌, ℕ, suc, ◌+◌, ◌-◌, ◌*◌, ◌/◌, ◌%◌, ◌<◌, ◌≤◌, true, List, refl, ap, ◌∙◌, arith}
+use Rattle.std.proofs.lemmas.Bool.{ne_eqb, le-leb, lt-leb}
 use Rattle.vx_base.specs.declared.perm.PageEntry.{PageEntry}
-use Rattle.vx_image.specs.Tables.{distinct_count}
-use Rattle.vx_tables.specs.Entries.{page_entry}
-use Rattle.vx_tables.specs.Residency.{Place, PlacedPage, Residency, pages_of, placed, moved, with_place}
-use Rattle.vx_tables.specs.Tables.{gib, mib2, regions, has_region, region_total, regions_below, region_after, table_count, second_frame, leaf_frame, root_entry, second_entry, leaf_entry, entry_in, table_word, leaf_word}
-use Rattle.vx_tables.proofs.Regions.{after-below, below-after, below-within, below-same}
+use Rattle.vx_tables.specs.Residency.{Residency, pages_of}
+use Rattle.vx_tables.specs.Tables.{gib, mib2, regions, has_region, region_total, regions_below, region_after, table_count, second_frame, leaf_frame, root_entry, second_entry, leaf_entry, entry_in, table_word}
+use Rattle.vx_tables.proofs.Regions.{after-below, below-within}
 
 -- a word of a frame
 pub frame_of_word : (frame i : ℕ) → i < 512 → (512 * frame + i) / 512 ≡ frame

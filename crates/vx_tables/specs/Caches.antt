@@ -1,5 +1,5 @@
 -- Caches of translations, as look-ups in what was filled. This project's own.
-use Rattle.std.specs.Prelude.{◌≡◌, ℕ, ◌%◌, ◌<◌, Bool, true, false, ◌&&◌, not, ◌==◌, List, [], ◌∷◌, find, Option, Some, None, if◌then◌else◌}
+use Rattle.std.specs.Prelude.{ℕ, ◌%◌, Bool, ◌&&◌, not, ◌==◌, List, ◌∷◌, find, Option, Some, None, if◌then◌else◌}
 use Rattle.vx_base.specs.Permissions.{grants}
 use Rattle.vx_base.specs.declared.machine.Want.{Want}
 use Rattle.vx_base.specs.declared.perm.Perm.{Perm}

@@ -1,6 +1,6 @@
 -- Entries of page tables: RISC-V Privileged 1.12, section 4.4.1 (Sv39). Bits V 1, R 2, W 4, X 8, U 16, G 32, A 64 and D 128,
 -- bits 9:8 for software, the frame from bit 10 on.
-use Rattle.std.specs.Prelude.{◌≡◌, ℕ, ◌+◌, ◌*◌, ◌/◌, ◌%◌, Bool, true, false, ◌&&◌, ◌||◌, not, ◌==◌, bit_and, bit_or, Option, Some, None, if◌then◌else◌}
+use Rattle.std.specs.Prelude.{ℕ, ◌+◌, ◌*◌, ◌/◌, ◌%◌, Bool, ◌&&◌, ◌||◌, not, ◌==◌, bit_and, bit_or, Option, Some, None, if◌then◌else◌}
 use Rattle.vx_base.specs.Permissions.{grants}
 use Rattle.vx_base.specs.declared.machine.Want.{Want}
 use Rattle.vx_base.specs.declared.machine.Want.TheVariants.{Fetch, Load, Store}

@@ -1,7 +1,8 @@
 -- The page tables of a process: RISC-V Privileged 1.12, section 4.4 (Sv39: three levels of tables of 512 entries). A process
 -- has a root, a second-level table for each region of 1 GiB that has one of its pages, and a leaf table for each region of
--- 2 MiB that does. They stand in that order, each kind in rising address, in successive frames; that order is this project's own.
-use Rattle.std.specs.Prelude.{◌≡◌, ℕ, ◌+◌, ◌-◌, ◌*◌, ◌/◌, ◌%◌, ◌^◌, ◌<◌, ◌≤◌, Bool, false, ◌&&◌, ◌==◌, nat_lt, nat_le, List, map, filter, find, slice_index, unwrap_or, Option, Some, None, if◌then◌else◌}
+-- 2 MiB that does. They stand in that order, each kind in rising address, in successive frames; that order is this project's
+-- own.
+use Rattle.std.specs.Prelude.{◌≡◌, ℕ, ◌+◌, ◌-◌, ◌*◌, ◌/◌, ◌%◌, ◌^◌, ◌<◌, ◌≤◌, Bool, false, ◌&&◌, ◌==◌, nat_lt, nat_le, List, map, filter, find, slice_index, unwrap_or, if◌then◌else◌}
 use Rattle.std.specs.List.{list_any}
 use Rattle.std.specs.Option.{option_map_or}
 use Rattle.vx_base.specs.Pages.{IsPageList}
@@ -55,7 +56,7 @@ abbrev pub leaf_entry : Residency → (number : ℕ) → ℕ
 leaf_entry residency number =
     option_map_or (λ (p : PlacedPage). page_entry p.entry.perm.bits p.place) (placed number residency) 0
 
--- the region below which so many lie
+-- the region with a page, below which so many such regions lie
 abbrev pub region_after : (size below : ℕ) → List PageEntry → ℕ
 region_after size below pages = unwrap_or (find (λ n. regions_below size n pages == below) (regions size pages)) 0
 

@@ -12,8 +12,8 @@ ghost use Rattle.vx_tables.specs.Building.{Builds, IsFrom, kernel_writes, pointe
 ghost use Rattle.vx_tables.specs.Entries.{page_entry};
 ghost use Rattle.vx_tables.specs.Residency.{Residency, PlacedPage, Place, IsOf, pages_of, placed, with_place, page_map, after_walk, is_granted, AreBelow, at_boot, place_at_boot};
 ghost use Rattle.vx_tables.specs.Tables.{AreHeld, Stand, SameBut, gib, mib2, has_region, region_total, regions_below, leaf_entry, leaf_word, table_count};
-ghost use Rattle.vx_tables.specs.Walking.{Walking, first_stage, stage_after, IsStage, IsWalk, CanRead, CanWrite, ReadsOn, EndsSo};
-ghost use Rattle.vx_tables.specs.Walks.{is_canonical, entry_word, walk, table_walk, with_entry, written_entry};
+ghost use Rattle.vx_tables.specs.Walking.{Walking, first_stage, stage_after, IsWalk, Agree, CanTick, WalkGoesOn, WalkEnds};
+ghost use Rattle.vx_tables.specs.Walks.{is_canonical, entry_word, walk, table_walk, walk_port, with_entry, written_entry};
 ghost use Rattle.vx_tables.specs.declared.stage.Stage.TheVariants as stage;
 ghost use Rattle.vx_tables.specs.declared.stage.TableEntry.{TableEntry};
 ghost use Rattle.vx_tables.specs.declared.walked.Walked.{Walked};
@@ -56,26 +56,36 @@ pub fn pages_are_granted()
     ensures frames { (residency : Residency) (memory : Memory) → IsOf residency memory → table_count (pages_of residency) ≡ image.table_frames memory }
 {}
 
-/// A walk on its way through tables: what its next step may do, and what it leaves.
+/// A walk on its way through tables: what its next step needs, and what that leaves. Other walks may have set bits since it has
+/// read.
 #[inline(always)]
 pub fn steps_follow_the_tables()
     ensures begins { (residency : Residency) (root address : ℕ) (want : Want) (port : Port) → IsPageList (pages_of residency)
         → IsWalk residency root (record { address = address; want = want; port = port; stage = first_stage root address }) [] }
-    ensures can_read { (cells : CellsState) (residency : Residency) (root address level frame : ℕ) → AreHeld cells root residency
-        → IsStage residency root address (stage.Reads level frame) → CanRead cells address level frame }
-    ensures can_write { (cells : CellsState) (residency : Residency) (root address : ℕ) (answer : Walked) (write : Option TableEntry) → AreHeld cells root residency
-        → IsStage residency root address (stage.Ends answer write) → CanWrite cells write }
-    ensures reads { (before after : CellsState) (residency : Residency) (root level frame : ℕ) (walking : Walking) (done : List TableEntry)
-        → AreHeld before root residency → IsWalk residency root walking done → walking.stage ≡ stage.Reads level frame
-        → Makes before after (read_at before walking.port (entry_word frame walking.address level) ∷ [])
-        → ReadsOn before after residency root walking (record walking { stage = stage_after walking.want walking.address level frame (slice_index before.contents (entry_word frame walking.address level)) }) done }
-    ensures ends { (before after : CellsState) (residency : Residency) (root : ℕ) (answer : Walked) (write : Option TableEntry) (walking : Walking) (done : List TableEntry)
-        → AreHeld before root residency → IsWalk residency root walking done → walking.stage ≡ stage.Ends answer write
-        → Makes before after (map (written_entry before.cycle walking.port) (option_to_list write))
-        → EndsSo before after residency root walking done answer }
+    ensures can_tick { (cells : CellsState) (seen residency : Residency) (root : ℕ) (walking : Walking) (done : List TableEntry)
+        → AreHeld cells root residency → Agree walking.address walking.want seen residency → IsWalk seen root walking done
+        → CanTick cells walking.stage }
+    ensures reads { (before after : CellsState) (seen residency : Residency) (root level frame : ℕ) (walking : Walking) (done : List TableEntry)
+        → AreHeld before root residency → Agree walking.address walking.want seen residency → IsWalk seen root walking done
+        → walking.stage ≡ stage.Reads level frame → Makes before after (read_at before walking.port (entry_word frame walking.address level) ∷ [])
+        → WalkGoesOn before after residency root walking (record walking { stage = stage_after walking.want walking.address level frame (slice_index before.contents (entry_word frame walking.address level)) }) done }
+    ensures ends { (before after : CellsState) (seen residency : Residency) (root : ℕ) (answer : Walked) (write : Option TableEntry) (walking : Walking) (done : List TableEntry)
+        → AreHeld before root residency → Agree walking.address walking.want seen residency → IsWalk seen root walking done
+        → walking.stage ≡ stage.Ends answer write → Makes before after (map (written_entry before.cycle walking.port) (option_to_list write))
+        → WalkEnds before after seen residency root walking done answer }
 {
     words_are_merged_by_bytes();
 }
+
+/// Walks go on side by side, one on each port: what one has seen agrees with what another one leaves, since no page grants both
+/// a fetch and a store.
+#[inline(always)]
+pub fn walks_go_side_by_side()
+    ensures same { (address : ℕ) (want : Want) (residency : Residency) → Agree address want residency residency }
+    ensures joined { (address : ℕ) (want : Want) (seen between now : Residency) → Agree address want seen between → Agree address want between now → Agree address want seen now }
+    ensures other { (residency : Residency) (address other_address : ℕ) (want other : Want) → IsPageList (pages_of residency) → walk_port want ≢ walk_port other
+        → Agree address want residency (after_walk residency other_address other) }
+{}
 
 /// The tables of a residency are built frame after frame: the regions that have pages are counted, and each frame that is
 /// written behind the others goes on with the tables' words.

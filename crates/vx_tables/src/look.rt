@@ -5,6 +5,6 @@ pub enum Look {
     Hit(u32),
     /// The page is kept, and doesn't grant the access.
     Denied,
-    /// The page isn't kept, or it grants a store and its D isn't set.
+    /// The page isn't kept, or a store is wanted, the page grants it, and its D isn't set.
     Miss,
 }

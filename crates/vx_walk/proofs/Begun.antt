@@ -1,6 +1,6 @@
 -- A whole walk, step by step.
-use Rattle.std.proofs.Common.{◌≡◌, ℕ, zero, suc, ◌+◌, ◌<◌, true, false, inl, inr, List, [], ◌∷◌, ◌++◌, map, Some, None, refl, sym, ap, subst, lit<, ◌∙◌, arith}
-use Rattle.std.specs.Prelude.{Option, option_map, slice_index, if◌then◌else◌}
+use Rattle.std.proofs.Common.{◌≡◌, ℕ, zero, suc, ◌+◌, ◌^◌, ◌<◌, inl, inr, List, [], ◌∷◌, ◌++◌, map, None, refl, sym, ap, subst, lit<, ◌∙◌, arith}
+use Rattle.std.specs.Prelude.{nat_lt, slice_index}
 use Rattle.std.specs.Option.{option_to_list}
 use Rattle.std.proofs.lemmas.Bool.{cases_Bool}
 use Rattle.std.proofs.lemmas.List.{map-append}
@@ -11,8 +11,8 @@ use Rattle.vx_cells.specs.declared.access.Port.{Port}
 use Rattle.vx_tables.specs.Entries.{frame_in, is_pointer}
 use Rattle.vx_tables.specs.Residency.{Residency, after_walk, page_map, pages_of}
 use Rattle.vx_tables.specs.Tables.{AreHeld, SameBut, table_count}
-use Rattle.vx_tables.specs.Walking.{Walking, first_stage, stage_after, steps_left, IsWalk, Steps, StepReads, StepEnds, ReadsOn, EndsSo, StepsOn, Walks}
-use Rattle.vx_tables.specs.Walks.{Walk, entry_word, table_walk, walk_port, read_entry, written_entry, walk_accesses}
+use Rattle.vx_tables.specs.Walking.{Walking, stage_behind, stage_after, steps_left, IsWalk, Ticks, WalkGoesOn, WalkEnds, Walks}
+use Rattle.vx_tables.specs.Walks.{Walk, entry_word, table_walk, walk_port, read_entry, written_entry}
 use Rattle.vx_tables.specs.declared.stage.Stage.{Stage}
 use Rattle.vx_tables.specs.declared.stage.Stage.TheVariants as stage
 use Rattle.vx_tables.specs.declared.stage.TableEntry.{TableEntry}
@@ -32,22 +32,29 @@ abbrev pub Joins : Type 0
 Joins = (before between after : CellsState) (first second : List Access) → Makes before between first → Makes between after second → Makes before after (first ++ second)
 
 -- what a step leaves of the walk's address, want and port
-next_is : (before after : CellsState) (walking next : Walking) (s : Stage) → Steps before after walking next s None → (next.address ≡ walking.address) × (next.want ≡ walking.want) × (next.port ≡ walking.port)
+next_is : (before after : CellsState) (walking next : Walking) (s : Stage) → Ticks before after walking next s None → (next.address ≡ walking.address) × (next.want ≡ walking.want) × (next.port ≡ walking.port)
 next_is before after walking next (stage.Reads level frame) step =
     (ap (λ (w : Walking). w.address) step.becomes, ap (λ (w : Walking). w.want) step.becomes, ap (λ (w : Walking). w.port) step.becomes)
 next_is before after walking next (stage.Ends last write) step = absurd (cc step.ends)
 next_is before after walking next stage.Over step = absurd step
 
 -- a step that reads leaves fewer
-fewer-after : (want : Want) (address level frame value : ℕ) → steps_left (stage_after want address level frame value) < level + 2
-fewer-after want address zero frame value = lit< tt
-fewer-after want address (suc level) frame value =
+fewer-behind : (want : Want) (address level frame value : ℕ) → steps_left (stage_behind want address level frame value) < level + 2
+fewer-behind want address zero frame value = lit< tt
+fewer-behind want address (suc level) frame value =
     elim (cases_Bool (is_pointer value)) [
       | inl is ↦ rw is (omega arith)
       | inr fails ↦ rw fails (omega arith)
     ]
 
-pub fewer : (before after : CellsState) (walking next : Walking) (s : Stage) → walking.stage ≡ s → Steps before after walking next s None → steps_left next.stage < steps_left walking.stage
+fewer-after : (want : Want) (address level frame value : ℕ) → steps_left (stage_after want address level frame value) < level + 2
+fewer-after want address level frame value =
+    elim (cases_Bool (nat_lt (frame_in value) (2 ^ 32))) [
+      | inl is ↦ let behind = fewer-behind want address level frame value in rw is behind
+      | inr fails ↦ rw fails (omega arith)
+    ]
+
+pub fewer : (before after : CellsState) (walking next : Walking) (s : Stage) → walking.stage ≡ s → Ticks before after walking next s None → steps_left next.stage < steps_left walking.stage
 fewer before after walking next (stage.Reads level frame) at step =
     let left : steps_left walking.stage ≡ level + 2 = ap steps_left at in
     let value : ℕ = slice_index before.contents (entry_word frame walking.address level) in
@@ -57,7 +64,7 @@ fewer before after walking next (stage.Ends last write) at step = absurd (cc ste
 fewer before after walking next stage.Over at step = absurd step
 
 -- one read more
-pub IsBegun-more : Joins → (before now after : CellsState) (residency : Residency) (root address : ℕ) (want : Want) (walking next : Walking) → (begun : IsBegun before now residency root address want walking) → Steps now after walking next walking.stage None → ReadsOn now after residency root walking next begun.done → IsBegun before after residency root address want next
+pub IsBegun-more : Joins → (before now after : CellsState) (residency : Residency) (root address : ℕ) (want : Want) (walking next : Walking) → (begun : IsBegun before now residency root address want walking) → Ticks now after walking next walking.stage None → WalkGoesOn now after residency root walking next begun.done → IsBegun before after residency root address want next
 IsBegun-more joins before now after residency root address want walking next begun step reads =
     let same = next_is now after walking next walking.stage step in
     let one : Makes now after (map (read_entry before.cycle (walk_port want)) (reads.entry ∷ [])) =
@@ -79,7 +86,7 @@ reads-stay cycle port [] contents = refl
 reads-stay cycle port (e ∷ entries) contents = reads-stay cycle port entries contents
 
 -- the end
-pub Walks-end : Joins → (before now after : CellsState) (residency : Residency) (root address : ℕ) (want : Want) (walking : Walking) (answer : Walked) → (begun : IsBegun before now residency root address want walking) → EndsSo now after residency root walking begun.done answer → Walks before after residency root address want answer
+pub Walks-end : Joins → (before now after : CellsState) (residency : Residency) (root address : ℕ) (want : Want) (walking : Walking) (answer : Walked) → (begun : IsBegun before now residency root address want walking) → WalkEnds now after residency residency root walking begun.done answer → Walks before after residency root address want answer
 Walks-end joins before now after residency root address want walking answer begun ends =
     let same : table_walk residency root walking.address walking.want ≡ table_walk residency root address want =
     ap (λ (a : ℕ). table_walk residency root a walking.want) begun.same_address ∙ ap (table_walk residency root address) begun.same_want in

@@ -1,5 +1,5 @@
 -- Pages in rising order lie in regions in rising order.
-use Rattle.std.proofs.Common.{◌≢◌, true, false, eqb, [], ◌∷◌, refl, ◌≡◌, ℕ, zero, suc, ◌+◌, ◌*◌, ◌/◌, ◌%◌, ◌<◌, ◌≤◌, inl, inr, List, length, get_or, ap, arith}
+use Rattle.std.proofs.Common.{◌≢◌, true, false, eqb, [], ◌∷◌, refl, ◌≡◌, ℕ, zero, suc, ◌/◌, ◌<◌, ◌≤◌, inl, inr, List, length, get_or, ap, arith}
 use Rattle.std.proofs.Math.Nat.{div-add-mod, mul-le-mul_left}
 use Rattle.std.proofs.lemmas.Bool.{cases_lt, eq-eqb, ne_eqb}
 use Rattle.std.proofs.Math.Bool.{or-true}

@@ -1,5 +1,5 @@
 -- One word more.
-use Rattle.std.proofs.Common.{◌≡◌, ℕ, suc, ◌+◌, List, [], ◌∷◌, ◌++◌, refl, sym, ap, subst, ◌∙◌, arith}
+use Rattle.std.proofs.Common.{◌≡◌, ℕ, suc, ◌+◌, List, [], ◌∷◌, ◌++◌, refl, sym, subst, arith}
 use Rattle.vx_cells.specs.Cells.{CellsState, Makes}
 use Rattle.vx_cells.specs.declared.access.Access.{Access}
 use Rattle.vx_tables.specs.Building.{kernel_write, kernel_writes}

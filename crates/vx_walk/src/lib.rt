@@ -2,7 +2,7 @@
 //!
 //! It stands on the definitions of `vx_tables` and on `vx_cells`. To the crates above it gives `build` and `build_present`,
 //! after which tables stand for a residency, and `walk` and `Walker`, which answer the page map of the residency and set A
-//! and D where they are to be set.
+//! and D where they are to be set. Two Walkers, one on each port, may be on their way at once.
 #![tactic(auto)]
 
 mod building;

@@ -5,7 +5,7 @@ ghost use Rattle.vx_cells.specs.Cells.{Makes};
 ghost use Rattle.vx_tables.specs.Entries.{frame_in};
 ghost use Rattle.vx_tables.specs.Residency.{Residency, pages_of};
 ghost use Rattle.vx_tables.specs.Tables.{AreHeld};
-ghost use Rattle.vx_tables.specs.Walking.{first_stage, stage_after, CanTick, CanWrite, IsWalk, Steps, StepsOn};
+ghost use Rattle.vx_tables.specs.Walking.{first_stage, stage_behind, stage_after, Agree, CanTick, CanWrite, IsOfLevels, IsWalk, Ticks, WalkTicks};
 ghost use Rattle.vx_tables.specs.Walks.{is_canonical, entry_word, written_entry};
 ghost use Rattle.vx_tables.specs.declared.stage.TableEntry.{TableEntry};
 
@@ -25,11 +25,13 @@ pub struct Walker {
 }
 
 impl Model for Walker {
-    ghost use Rattle.vx_tables.specs.Walking.{Walking};
+    ghost use Rattle.vx_tables.specs.Walking.{Walking, IsOfLevels};
 
     ghost Value = { Walking };
 
     ghost view = { λ w. record { address = w.address; want = w.want; port = w.port; stage = w.stage } };
+
+    ghost invariant = { λ w. IsOfLevels w.stage };
 }
 
 /// Whether bits 63 to 39 of an address equal bit 38.
@@ -49,12 +51,28 @@ fn entry_word(frame: u32, address: u64, level: u32) -> u32
     512 * frame + (address >> (12 + 9 * level) & 511) as u32
 }
 
-/// What comes after the entry of that value was read in a table.
+/// What comes after the entry of that value was read in a table. A frame beyond 32 bits is none of the memory's, and its access
+/// is denied.
 fn stage_after(want: Want, address: u64, level: u32, frame: u32, value: u64) -> Stage
     requires frame { frame < 16384 }
     requires level { level < 3 }
+    ensures value { result ≡ stage_after want address level frame value }
+    ensures levels { IsOfLevels result }
+{
+    if value / 1024 < 1 << 32 {
+        stage_behind(want, address, level, frame, value)
+    } else {
+        Stage::Ends(Walked::Denied, None)
+    }
+}
+
+/// The same of an entry whose frame has 32 bits.
+fn stage_behind(want: Want, address: u64, level: u32, frame: u32, value: u64) -> Stage
+    requires frame { frame < 16384 }
+    requires level { level < 3 }
     requires value { frame_in value < 2 ^ 32 }
-    ensures { result ≡ stage_after want address level frame value }
+    ensures value { result ≡ stage_behind want address level frame value }
+    ensures levels { IsOfLevels result }
 {
     if level == 0 {
         let word = entry_word(frame, address, 0);
@@ -72,7 +90,8 @@ fn stage_after(want: Want, address: u64, level: u32, frame: u32, value: u64) -> 
 
 /// The stage in which a walk begins.
 fn first_stage(root: u32, address: u64) -> Stage
-    ensures { result ≡ first_stage root address }
+    ensures value { result ≡ first_stage root address }
+    ensures levels { IsOfLevels result }
 {
     if is_canonical(address) {
         Stage::Reads(2, root)
@@ -109,14 +128,18 @@ impl Walker {
     }
 
     /// Goes on with the walk at the current cycle: reads the next entry and answers `None`, or, once the entries lead no
-    /// further, ends it with its answer, and writes the leaf where A, or D for a store, is to be set. No tick of the walk has
-    /// answered `Some` before.
+    /// further, ends it with its answer, and writes the leaf where A, or D for a store, was to be set when it was read. No tick
+    /// of the walk has answered `Some` before, and the cells have the frame in which it reads, or the word that it writes.
+    ///
+    /// Over tables it answers the page map, and sets A and D, also where walks on the other port have set some since.
     pub fn tick<C: Cells>(&mut self, cells: &mut C) -> Option<Walked>
-        requires { CanTick (C.state cells.old) self.old }
-        ensures steps { Steps (C.state cells.old) (C.state cells.new) self.old self.new self.old.stage result }
-        ensures walk { (residency : Residency) (root : ℕ) (done : List TableEntry) → AreHeld (C.state cells.old) root residency
-            → IsWalk residency root self.old done → StepsOn (C.state cells.old) (C.state cells.new) residency root self.old self.new done result }
+        requires { CanTick (C.state cells.old) self.old.stage }
+        ensures ticks { Ticks (C.state cells.old) (C.state cells.new) self.old self.new self.old.stage result }
+        ensures walk { (seen residency : Residency) (root : ℕ) (done : List TableEntry) → AreHeld (C.state cells.old) root residency
+            → Agree self.old.address self.old.want seen residency → IsWalk seen root self.old done
+            → WalkTicks (C.state cells.old) (C.state cells.new) seen residency root self.old self.new done result }
     {
+        let _frames = cells.frames();
         steps_follow_the_tables();
         match self.stage {
             Stage::Reads(level, frame) => {

@@ -7,7 +7,7 @@ ghost use Rattle.std.specs.Prelude.{◌≡◌};
 use crate::walker::Walker;
 use vx_base::Want;
 use vx_cells::{Cells, Port, accesses_are_made_in_turn};
-use vx_tables::Walked;
+use vx_tables::{Walked, steps_follow_the_tables, walks_go_side_by_side};
 
 /// The port of a walk: `FetchWalk` where a fetch is wanted, else `Walk`.
 fn port_of(want: Want) -> Port
@@ -29,6 +29,8 @@ pub fn walk<C: Cells>(cells: &mut C, root: u32, address: u64, want: Want) -> Wal
         → Walks (C.state cells.old) (C.state cells.new) residency root address want result }
 {
     accesses_are_made_in_turn();
+    steps_follow_the_tables();
+    walks_go_side_by_side();
     let mut walker = Walker::begin(root, address, want, port_of(want));
     loop {
         if let Some(answer) = walker.tick(cells) {

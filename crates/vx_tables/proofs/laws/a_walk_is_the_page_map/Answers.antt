@@ -1,5 +1,6 @@
 use Rattle.std.proofs.Common.{◌∙◌, sym}
 use Rattle.std.specs.Prelude.{slice_index}
+use Rattle.vx_tables.proofs.Agreeing.{Agree-same}
 use Rattle.vx_tables.proofs.Descents.{walk-expected, table_walk-expected, table_walk-answer, Stand-after_walk}
 use Rattle.vx_tables.proofs.laws.a_walk_is_the_page_map.Goals as goal
 
@@ -11,4 +12,4 @@ pub returns-clause-answer : goal.returns-clause-answer
 returns-clause-answer c root address want residency listed = table_walk-answer root address want residency listed
 
 pub returns-clause-stand : goal.returns-clause-stand
-returns-clause-stand c contents root address want residency stand room = Stand-after_walk contents residency root address want stand room
+returns-clause-stand c contents root address want residency stand room = Stand-after_walk contents residency residency root address want (Agree-same address want residency) stand room

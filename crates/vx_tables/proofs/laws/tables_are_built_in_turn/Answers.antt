@@ -1,4 +1,4 @@
-use Rattle.std.proofs.Common.{◌+◌, ◌*◌, arith}
+use Rattle.std.proofs.Common.{arith}
 use Rattle.vx_tables.specs.Tables.{regions}
 use Rattle.vx_tables.proofs.Regions.{below-bound}
 use Rattle.vx_tables.proofs.Built.{root-built, second-built, leaf-built, none-below, step-below, all-below, between-below, no-writes, tables-built, pages_of-at_boot, found, missing, below-at_boot}

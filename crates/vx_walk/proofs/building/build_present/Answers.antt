@@ -1,6 +1,5 @@
 -- The cells have the frames of the tables and of the pages.
-use Rattle.std.proofs.Common.{◌≡◌, ℕ, ◌+◌, ◌≤◌, length, None, Some, sym, ap, subst, arith}
-use Rattle.vx_cells.specs.Cells.{CellsState}
+use Rattle.std.proofs.Common.{ℕ, ◌+◌, ◌≤◌, length, Some, sym, ap, subst, arith}
 use Rattle.vx_tables.specs.Residency.{AreBelow, at_boot}
 use Rattle.vx_tables.specs.Tables.{table_count}
 use Rattle.vx_walk.proofs.building.build_present.Goals as goal

@@ -5,7 +5,7 @@ use Rattle.vx_base.specs.declared.perm.PageEntry.{PageEntry}
 use Rattle.vx_cells.specs.Cells.{CellsState, Makes}
 use Rattle.vx_tables.specs.Building.{kernel_writes, pointer_for, table_writes}
 use Rattle.vx_tables.specs.Residency.{Residency, at_boot, pages_of}
-use Rattle.vx_tables.specs.Tables.{gib, region_total, regions_below, table_count}
+use Rattle.vx_tables.specs.Tables.{gib, regions_below, table_count}
 use Rattle.vx_walk.proofs.building.build_tables.Goals as goal
 
 pub write_seconds-frame-requires-clause-memory : goal.write_seconds-frame-requires-clause-memory

@@ -1,7 +1,6 @@
 -- The first page at or above the region tells.
-use Rattle.std.proofs.Common.{◌≡◌, ℕ, ◌/◌, ◌<◌, ◌≤◌, ◌≢◌, true, false, inl, inr, eqb, sym, ◌∙◌, arith}
-use Rattle.std.proofs.lemmas.Bool.{cases_Bool, cases_lt, eqb-true, eq-eqb, ne_eqb, le-ltb, false≢true}
-use Rattle.vx_base.specs.declared.perm.PageEntry.{PageEntry}
+use Rattle.std.proofs.Common.{ℕ, ◌≢◌, inl, inr, eqb, sym, ◌∙◌, arith}
+use Rattle.std.proofs.lemmas.Bool.{cases_Bool, cases_lt, eqb-true, eq-eqb, le-ltb, false≢true}
 use Rattle.vx_walk.proofs.Ordered.{region-there, region-past, region-above, nothing}
 use Rattle.vx_walk.proofs.building.has_region.Goals as goal
 

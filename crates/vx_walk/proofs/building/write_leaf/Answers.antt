@@ -1,5 +1,5 @@
 -- The leaf table of the region, behind those before it.
-use Rattle.std.proofs.Common.{◌≡◌, ℕ, true, ◌+◌, ◌*◌, List, sym, subst, ◌∙◌}
+use Rattle.std.proofs.Common.{◌≡◌, true, ◌+◌, List, sym, subst, ◌∙◌}
 use Rattle.vx_base.specs.declared.perm.PageEntry.{PageEntry}
 use Rattle.vx_cells.specs.Cells.{CellsState}
 use Rattle.vx_tables.specs.Residency.{at_boot}

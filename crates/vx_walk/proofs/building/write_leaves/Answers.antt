@@ -1,5 +1,5 @@
 -- One leaf entry more.
-use Rattle.std.proofs.Common.{◌≡◌, ℕ, ◌+◌, ◌*◌, refl, sym, ap, ◌∙◌, arith}
+use Rattle.std.proofs.Common.{ℕ, ◌+◌, ◌*◌, refl, ap, ◌∙◌}
 use Rattle.vx_tables.specs.Residency.{at_boot}
 use Rattle.vx_tables.specs.Tables.{leaf_entry}
 use Rattle.vx_walk.proofs.Written.{no-words, one-more}

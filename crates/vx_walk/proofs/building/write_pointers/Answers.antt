@@ -1,5 +1,5 @@
 -- One entry more, and one table where the region has a page.
-use Rattle.std.proofs.Common.{◌≡◌, ℕ, ◌+◌, ◌*◌, refl, sym, ap, subst, ◌∙◌, arith}
+use Rattle.std.proofs.Common.{◌≡◌, ℕ, ◌+◌, ◌*◌, refl, ap, subst, ◌∙◌, arith}
 use Rattle.std.specs.Prelude.{Bool, if◌then◌else◌}
 use Rattle.vx_cells.specs.Cells.{Makes}
 use Rattle.vx_tables.specs.Building.{kernel_writes, pointer_for}

@@ -1,11 +1,10 @@
 -- The walk begins, goes on and ends.
-use Rattle.std.proofs.Common.{◌≡◌, [], None, Some, refl, sym, ap, subst, ◌∙◌, arith}
+use Rattle.std.proofs.Common.{[], None, refl, ap, subst, ◌∙◌}
 use Rattle.vx_cells.specs.Cells.{CellsState}
-use Rattle.vx_tables.specs.Walking.{Walking, IsWalk, Steps, StepsOn, ReadsOn, EndsSo}
-use Rattle.vx_tables.specs.Walks.{walk_port}
+use Rattle.vx_tables.specs.Walking.{Walking, Ticks, WalkTicks, WalkGoesOn, WalkEnds}
 use Rattle.std.specs.Prelude.{Option}
 use Rattle.vx_tables.specs.declared.walked.Walked.{Walked}
-use Rattle.vx_walk.proofs.Begun.{IsBegun, IsBegun-more, Walks-end, fewer}
+use Rattle.vx_walk.proofs.Begun.{IsBegun-more, Walks-end, fewer}
 use Rattle.vx_walk.proofs.whole.walk.Goals as goal
 
 pub loop-answer-init : goal.loop-answer-init
@@ -22,23 +21,25 @@ loop-answer-init g c residency held = record {
 pub tick-requires : goal.tick-requires
 tick-requires g c =
     let begun = c.loop-answer.invariant c.requires.residency c.requires.held in
-    record { residency = c.requires.residency; root = c.args.root; held = begun.held; stage = begun.walk.stage }
+    c.steps_follow_the_tables.ensures.can_tick (g.C.Cells.state c.loop-answer.cells) c.requires.residency c.requires.residency c.args.root c.loop-answer.walker begun.done begun.held
+    (c.walks_go_side_by_side.ensures.same c.loop-answer.walker.address c.loop-answer.walker.want c.requires.residency) begun.walk
 
 pub returns-in-Some : goal.returns-in-Some
 returns-in-Some g c residency held =
     let now : CellsState = g.C.Cells.state c.loop-answer.cells in
     let after : CellsState = g.C.Cells.state c.tick.new.cells in
     let begun = c.loop-answer.invariant residency held in
-    let ends : EndsSo now after residency c.args.root c.loop-answer.walker begun.done c.in-Some.answer =
-    subst (λ (r : Option Walked). StepsOn now after residency c.args.root c.loop-answer.walker c.tick.new.self begun.done r) c.in-Some.is (c.tick.ensures.walk residency c.args.root begun.done begun.held begun.walk) in
+    let ends : WalkEnds now after residency residency c.args.root c.loop-answer.walker begun.done c.in-Some.answer =
+    subst (λ (r : Option Walked). WalkTicks now after residency residency c.args.root c.loop-answer.walker c.tick.new.self begun.done r) c.in-Some.is
+    (c.tick.ensures.walk residency residency c.args.root begun.done begun.held (c.walks_go_side_by_side.ensures.same c.loop-answer.walker.address c.loop-answer.walker.want residency) begun.walk) in
     Walks-end c.accesses_are_made_in_turn.ensures.joined _ now after residency c.args.root c.args.address c.args.want c.loop-answer.walker c.in-Some.answer begun ends
 
 pub loop-answer-smaller : goal.loop-answer-smaller
 loop-answer-smaller g c =
     let now : CellsState = g.C.Cells.state c.loop-answer.cells in
     let after : CellsState = g.C.Cells.state c.tick.new.cells in
-    let step : Steps now after c.loop-answer.walker c.tick.new.self c.loop-answer.walker.stage None =
-    subst (λ (r : Option Walked). Steps now after c.loop-answer.walker c.tick.new.self c.loop-answer.walker.stage r) c.in_default.is c.tick.ensures.steps in
+    let step : Ticks now after c.loop-answer.walker c.tick.new.self c.loop-answer.walker.stage None =
+    subst (λ (r : Option Walked). Ticks now after c.loop-answer.walker c.tick.new.self c.loop-answer.walker.stage r) c.in_default.is c.tick.ensures.ticks in
     fewer now after c.loop-answer.walker c.tick.new.self c.loop-answer.walker.stage refl step
 
 pub loop-answer-preserved : goal.loop-answer-preserved
@@ -46,8 +47,9 @@ loop-answer-preserved g c residency held =
     let now : CellsState = g.C.Cells.state c.loop-answer.cells in
     let after : CellsState = g.C.Cells.state c.tick.new.cells in
     let begun = c.loop-answer.invariant residency held in
-    let step : Steps now after c.loop-answer.walker c.tick.new.self c.loop-answer.walker.stage None =
-    subst (λ (r : Option Walked). Steps now after c.loop-answer.walker c.tick.new.self c.loop-answer.walker.stage r) c.in_default.is c.tick.ensures.steps in
-    let reads : ReadsOn now after residency c.args.root c.loop-answer.walker c.tick.new.self begun.done =
-    subst (λ (r : Option Walked). StepsOn now after residency c.args.root c.loop-answer.walker c.tick.new.self begun.done r) c.in_default.is (c.tick.ensures.walk residency c.args.root begun.done begun.held begun.walk) in
+    let step : Ticks now after c.loop-answer.walker c.tick.new.self c.loop-answer.walker.stage None =
+    subst (λ (r : Option Walked). Ticks now after c.loop-answer.walker c.tick.new.self c.loop-answer.walker.stage r) c.in_default.is c.tick.ensures.ticks in
+    let reads : WalkGoesOn now after residency c.args.root c.loop-answer.walker c.tick.new.self begun.done =
+    subst (λ (r : Option Walked). WalkTicks now after residency residency c.args.root c.loop-answer.walker c.tick.new.self begun.done r) c.in_default.is
+    (c.tick.ensures.walk residency residency c.args.root begun.done begun.held (c.walks_go_side_by_side.ensures.same c.loop-answer.walker.address c.loop-answer.walker.want residency) begun.walk) in
     IsBegun-more c.accesses_are_made_in_turn.ensures.joined _ now after residency c.args.root c.args.address c.args.want c.loop-answer.walker c.tick.new.self begun step reads

@@ -1,5 +1,4 @@
 -- The walk so far, through the tables of any residency that they stand for.
-use Rattle.std.proofs.Common.{ℕ}
 use Rattle.vx_tables.specs.Residency.{Residency}
 use Rattle.vx_tables.specs.Tables.{AreHeld}
 use Rattle.vx_tables.specs.Walking.{steps_left}
