@@ -1,4 +1,4 @@
-ghost use Rattle.std.specs.Prelude.{IsTrue, ◌≡◌, pos, ◌+◌, ◌*◌, ◌-ℤ◌, if◌then◌else◌};
+ghost use Rattle.std.specs.Prelude.{IsTrue, ◌≡◌, pos, ◌*◌, ◌-ℤ◌, if◌then◌else◌};
 ghost use Rattle.vx_base.specs.Numbers.{reduced};
 ghost use Rattle.vx_bits.specs.Width.{is_width};
 ghost use Rattle.vx_vector.specs.Numbers.{is_less_at};
@@ -22,15 +22,6 @@ pub(crate) fn greater(width: u32, a: u64, b: u64) -> u64
     ensures { result ≡ (if is_less_at width a b then b else a) }
 {
     if is_less(width, a, b) { b } else { a }
-}
-
-/// A product, and a number added to it.
-#[inline(always)]
-pub(crate) fn product_and(width: u32, x: u64, y: u64, a: u64) -> u64
-    requires { IsTrue (is_width width) }
-    ensures { result ≡ reduced width (pos (x * y + a)) }
-{
-    low(width, x.wrapping_mul(y).wrapping_add(a))
 }
 
 /// A number from which a product is taken.

@@ -1,5 +1,5 @@
 ghost use Rattle.vx_vstate.specs.Views.{view_of};
-ghost use Rattle.std.specs.Prelude.{IsTrue, ◌≡◌, ℕ, ◌*◌, ◌/◌, ◌^◌, ◌<◌, ◌≤◌, length, if◌then◌else◌};
+ghost use Rattle.std.specs.Prelude.{IsTrue, ◌≡◌, ℕ, ◌/◌, ◌<◌, ◌≤◌, length, if◌then◌else◌};
 ghost use Rattle.vx_bits.specs.Width.{is_width};
 ghost use Rattle.vx_elem.specs.Kinds.{is_elem, is_elem_form, is_other};
 ghost use Rattle.vx_operands.specs.Forms.{form_of, reading};
@@ -13,13 +13,13 @@ ghost use Rattle.vx_vector.specs.Numbers.{extended_at, plain};
 ghost use Rattle.vx_vector.specs.Reading.{sew_of, destination_width, vs2_width};
 ghost use Rattle.vx_vector.specs.Rules.{rule_of};
 ghost use Rattle.vx_vector.specs.Words.{destination_words};
-ghost use Rattle.vx_vstate.specs.Registers.{place_of, word_at, words_of_all};
+ghost use Rattle.vx_vstate.specs.Registers.{word_at};
 
 use crate::form::form_of;
 use crate::kinds::is_plain;
 use crate::lanes::lanes;
 use vx_bits::{reduce, signed_reading};
-use vx_operands::{Form, even_word, group_word, moved_word, plain, whole_word, wide_word};
+use vx_operands::{Form, even_word, has_a_word, moved_word, plain, whole_word, wide_word};
 use vx_packed::{Made, Packing, Sources, make};
 use vx_rows::{Family, Op};
 use vx_vector::{Places, Word, words_are_made};
@@ -157,16 +157,6 @@ fn word_of_form<S: WordFile>(form: Form, file: &S, at: &Setting, regs: &Places, 
     } else {
         other_word(form, file, at, regs, sew, w)
     }
-}
-
-/// Word `w` of the group that begins at a register is a number of 64 bits.
-#[inline(always)]
-fn has_a_word<S: WordFile>(file: &S, at: &Setting, register: u8, w: u32)
-    requires same { S.vlen file.now ≡ at.now.vlen }
-    requires within { place_of at.now.vlen register w < words_of_all at.now.vlen }
-    ensures { word_at at.now.vlen (S.words file.now) register w < 2 ^ 64 }
-{
-    let _word = group_word(file, at, register, w);
 }
 
 /// Word `w` of the destination, counted from its first register on, as an instruction leaves it: active elements are the

@@ -1,2 +1,3 @@
 pub mod Forms
 pub mod Lanes
+pub mod Parts

@@ -6,12 +6,22 @@
 //! instruction leaves in its place.
 #![tactic(auto)]
 
+mod bits;
+mod double;
 mod form;
 mod grouped;
 mod merged;
+mod narrow;
+mod numbers;
+mod parts;
 mod sources;
 
-pub use form::{Form, is_less, is_unmasked, plain};
+pub use bits::{compared_word, merged_bits};
+pub use double::{doubled_word, make_doubled};
+pub use form::{Form, form_with, is_unmasked};
 pub use grouped::{moved_word, whole_word, wide_word};
 pub use merged::{even_word, kept, merged_word};
-pub use sources::{group_word, mask_word, part, second_part, second_word};
+pub use narrow::narrow_word;
+pub use numbers::{is_less, plain, product_and};
+pub use parts::{make_bits, make_narrow};
+pub use sources::{group_word, has_a_word, mask_word, part, second_part, second_word};

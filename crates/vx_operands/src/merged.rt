@@ -36,7 +36,7 @@ pub fn kept(old: u64) -> Word
 
 /// A bit for each element, whether the mask lets it take part.
 #[inline(always)]
-fn let_in(form: Form, regs: &Places, mask: u64) -> u64
+pub(crate) fn let_in(form: Form, regs: &Places, mask: u64) -> u64
     ensures all { (at : SettingView) (words : List ℕ) → is_unmasked (reading form at regs.now words) ≡ true → result ≡ 2 ^ 64 - 1 }
     ensures some { (at : SettingView) (words : List ℕ) → is_unmasked (reading form at regs.now words) ≡ false → result ≡ mask }
 {

@@ -1,5 +1,5 @@
 ghost use Rattle.vx_vstate.specs.Views.{view_of};
-ghost use Rattle.std.specs.Prelude.{IsTrue, true, false, ◌≡◌, ℕ, ◌+◌, ◌*◌, ◌/◌, ◌<◌, ◌≤◌, ◌==◌};
+ghost use Rattle.std.specs.Prelude.{IsTrue, true, false, ◌≡◌, ◌+◌, ◌*◌, ◌/◌, ◌^◌, ◌<◌, ◌≤◌};
 ghost use Rattle.vx_base.specs.Numbers.{reduced};
 ghost use Rattle.vx_bits.specs.Width.{is_width};
 ghost use Rattle.vx_operands.specs.Forms.{reading};
@@ -24,6 +24,16 @@ pub fn group_word<S: WordFile>(file: &S, at: &Setting, register: u8, w: u32) -> 
 {
     let per_register = at.vlen / 64;
     file.word(register + (w / per_register) as u8, w % per_register)
+}
+
+/// Word `w` of the group that begins at a register is a number of 64 bits.
+#[inline(always)]
+pub fn has_a_word<S: WordFile>(file: &S, at: &Setting, register: u8, w: u32)
+    requires same { S.vlen file.now ≡ at.now.vlen }
+    requires within { place_of at.now.vlen register w < words_of_all at.now.vlen }
+    ensures { word_at at.now.vlen (S.words file.now) register w < 2 ^ 64 }
+{
+    let _word = group_word(file, at, register, w);
 }
 
 /// The elements of a width from element `w * count` on, `count` of them, in the lowest bits. They fill a half, a quarter,
