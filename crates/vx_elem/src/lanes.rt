@@ -5,12 +5,12 @@ ghost use Rattle.vx_operands.specs.Lanes.{answer, numbers_of};
 ghost use Rattle.vx_packed.specs.Made.{even_packing, made};
 
 use crate::kinds::{is_bitwise, is_product, is_sum};
-use crate::numbers::{less_product, product_and};
+use crate::numbers::less_product;
 use vx_bits::{
     add_at, div_at, divu_at, mul_at, mulh_at, mulhsu_at, mulhu_at, rem_at, remu_at, sll_at, sra_at,
     srl_at, sub_at,
 };
-use vx_operands::{greater, lesser, plain};
+use vx_operands::{greater, lesser, plain, product_and};
 use vx_packed::{Made, Sources, make_even};
 use vx_rows::Family;
 

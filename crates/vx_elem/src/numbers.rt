@@ -1,17 +1,8 @@
-ghost use Rattle.std.specs.Prelude.{IsTrue, ◌≡◌, pos, ◌+◌, ◌*◌, ◌-ℤ◌};
+ghost use Rattle.std.specs.Prelude.{IsTrue, ◌≡◌, pos, ◌*◌, ◌-ℤ◌};
 ghost use Rattle.vx_base.specs.Numbers.{reduced};
 ghost use Rattle.vx_bits.specs.Width.{is_width};
 
 use vx_bits::low;
-
-/// A product, and a number added to it.
-#[inline(always)]
-pub(crate) fn product_and(width: u32, x: u64, y: u64, a: u64) -> u64
-    requires { IsTrue (is_width width) }
-    ensures { result ≡ reduced width (pos (x * y + a)) }
-{
-    low(width, x.wrapping_mul(y).wrapping_add(a))
-}
 
 /// A number from which a product is taken.
 #[inline(always)]

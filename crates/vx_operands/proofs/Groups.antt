@@ -33,7 +33,7 @@ pub record IsGroup (r : Reading) (o : Operand) : Type 0 where
   pub elements : count_in r o ≡ vlmax r.at.vlen r.at.vtype
   pub there : not (is_absent o) ≡ true
 
-group_is : (r : Reading) (o : Operand) → IsTrue (is_group o) → IsGroup r o
+pub group_is : (r : Reading) (o : Operand) → IsTrue (is_group o) → IsGroup r o
 group_is r Single h = record { whole = refl; elements = refl; there = refl }
 group_is r Double h = record { whole = refl; elements = refl; there = refl }
 group_is r Half h = record { whole = refl; elements = refl; there = refl }

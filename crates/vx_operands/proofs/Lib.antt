@@ -5,3 +5,6 @@ pub mod Places
 pub mod Moves
 pub mod ByIndex
 pub mod Counts
+pub mod Packings
+pub mod Halves
+pub mod Compared

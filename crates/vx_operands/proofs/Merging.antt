@@ -77,10 +77,10 @@ saturated_given : (b : Bool) (s : Sat) → has_saturated (given b s) ≡ (b && s
 saturated_given true s = refl
 saturated_given false s = refl
 
-element_is : (r : Reading) (i : ℕ) → IsTrue (is_each (rule_of r.family)) → element_after r i ≡ (if is_active r i then (answer r.family (numbers_at r i)).value else element_of r r.places.vd (destination_width r) i)
+pub element_is : (r : Reading) (i : ℕ) → IsTrue (is_each (rule_of r.family)) → element_after r i ≡ (if is_active r i then (answer r.family (numbers_at r i)).value else element_of r r.places.vd (destination_width r) i)
 element_is r i h = ap (λ o. value_after o (element_of r r.places.vd (destination_width r) i)) (becomes_each (rule_of r.family) r i h) ∙ after_given (is_active r i) (answer r.family (numbers_at r i)) (element_of r r.places.vd (destination_width r) i)
 
-saturates_is : (r : Reading) (i : ℕ) → IsTrue (is_each (rule_of r.family)) → has_saturated (becomes r i) ≡ (is_active r i && (answer r.family (numbers_at r i)).sat)
+pub saturates_is : (r : Reading) (i : ℕ) → IsTrue (is_each (rule_of r.family)) → has_saturated (becomes r i) ≡ (is_active r i && (answer r.family (numbers_at r i)).sat)
 saturates_is r i h = ap has_saturated (becomes_each (rule_of r.family) r i h) ∙ saturated_given (is_active r i) (answer r.family (numbers_at r i))
 
 -- ---- a word behind the last element
@@ -134,7 +134,7 @@ active_are r w lanes bits mask n to e most h t all some is = record {
 
 -- ---- the word that is made
 
-pick : (b : Bool) (p x y v : ℕ) → (b ≡ true → x ≡ v % p) → (if b then x else y) % p ≡ (if b then v else y) % p
+pub pick : (b : Bool) (p x y v : ℕ) → (b ≡ true → x ≡ v % p) → (if b then x else y) % p ≡ (if b then v else y) % p
 pick true p x y v h = ap (λ n. n % p) (h refl) ∙ mod-mod v p
 pick false p x y v h = refl
 

@@ -1,3 +1,4 @@
 pub mod Forms
 pub mod Lanes
 pub mod Rising
+pub mod Parts

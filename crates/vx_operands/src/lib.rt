@@ -7,17 +7,27 @@
 #![tactic(auto)]
 
 mod active;
+mod bits;
+mod double;
 mod first;
 mod form;
 mod grouped;
 mod merged;
 mod moved_by;
+mod narrow;
+mod numbers;
+mod parts;
 mod sources;
 
 pub use active::{active_word, has_few_elements, is_bit_set, lane_at, ones};
+pub use bits::{compared_word, merged_bits};
+pub use double::{doubled_word, make_doubled};
 pub use first::{first_set, writes_first};
-pub use form::{Form, greater, is_less, is_unmasked, lesser, plain};
+pub use form::{Form, form_with, is_unmasked};
 pub use grouped::{moved_word, whole_word, wide_word};
 pub use merged::{even_word, kept, merged_word};
 pub use moved_by::{moved_by_index, unchanged};
+pub use narrow::narrow_word;
+pub use numbers::{greater, is_less, lesser, plain, product_and};
+pub use parts::{make_bits, make_narrow};
 pub use sources::{group_word, has_a_word, mask_word, part, second_part, second_word};

@@ -1,0 +1,14 @@
+//! Words of vector arithmetic with a fixed point: sums, differences, products and shifts that saturate or are rounded.
+//!
+//! It stands on `vx_operands`, which reads the words of the operands and merges the new elements with the old ones, and on
+//! the arithmetic of `vx_bits`. To the crate above it gives `word`, which makes a word of the destination as the
+//! definitions of `vx_vector` say that the instruction leaves it, and says whether an element of it saturated.
+#![tactic(auto)]
+
+mod form;
+mod kinds;
+mod lanes;
+mod numbers;
+mod words;
+
+pub use words::word;
