@@ -1,0 +1,14 @@
+//! Words of permutations: slides, gathers, compressed elements, and the move of an integer register to element 0.
+//!
+//! It stands on `vx_operands`, which reads the words of the operands and merges the new elements with the old ones. To the
+//! crate above it gives `word`, which makes a word of the destination as the definitions of `vx_vector` say that the
+//! instruction leaves it.
+#![tactic(auto)]
+
+mod elements;
+mod form;
+mod moves;
+mod packs;
+mod words;
+
+pub use words::word;

@@ -1,0 +1,345 @@
+ghost use Rattle.vx_vstate.specs.Views.{view_of};
+ghost use Rattle.std.specs.Prelude.{IsTrue, ◌≡◌, ℕ, ◌+◌, ◌-◌, ◌*◌, ◌/◌, ◌%◌, ◌^◌, ◌<◌, ◌==◌, if◌then◌else◌, length, nat_lt, Option, Some};
+ghost use Rattle.vx_bits.specs.Width.{is_width};
+ghost use Rattle.vx_decode.specs.Groups.{width_of};
+ghost use Rattle.vx_operands.specs.Forms.{reading};
+ghost use Rattle.vx_operands.specs.Rising.{moved_by};
+ghost use Rattle.vx_perm.specs.Kinds.{IsIndexed, is_gather, is_move, is_slide};
+ghost use Rattle.vx_rows.specs.Families.{operands_of};
+ghost use Rattle.vx_rows.specs.declared.family.Operand.TheVariants.{Single};
+ghost use Rattle.vx_vector.specs.Laws.{IsSound, made_word, word_saturates};
+ghost use Rattle.vx_vector.specs.Lists.{element_or_zero, gather_index, slid_up};
+ghost use Rattle.vx_vector.specs.Reading.{lists_of, sew_of, vs1_width};
+ghost use Rattle.vx_vector.specs.Rules.{rule_of};
+ghost use Rattle.vx_vector.specs.Words.{destination_words};
+ghost use Rattle.vx_vstate.specs.Registers.{element_word, is_element_width, place_of, words_of_all};
+ghost use Rattle.vx_vstate.specs.Vtype.{vlmax};
+
+use crate::elements::{element_at, number, source};
+use vx_bits::low;
+use vx_operands::{Form, moved_by_index};
+use vx_rows::{Family, First};
+use vx_vector::{Places, Word};
+use vx_vstate::{Setting, WordFile};
+
+/// Whether a family is one of slides.
+#[inline(always)]
+pub(crate) fn is_slide(family: Family) -> bool
+    ensures { result ≡ is_slide family }
+{
+    match family {
+        Family::Vslideup | Family::Vslidedown | Family::Vslide1up | Family::Vslide1down => true,
+        _ => false,
+    }
+}
+
+/// Whether a family is one of gathers.
+#[inline(always)]
+pub(crate) fn is_gather(family: Family) -> bool
+    ensures { result ≡ is_gather family }
+{
+    match family {
+        Family::Vrgather | Family::Vrgatherei16 => true,
+        _ => false,
+    }
+}
+
+/// The width of a gather's indices: SEW, or 16.
+#[inline(always)]
+fn index_width(family: Family, sew: u32) -> u32
+    requires gathers { IsTrue (is_gather family) }
+    requires width { IsTrue (is_width sew) }
+    ensures is { result ≡ width_of (operands_of family).vs1 sew }
+    ensures width { IsTrue (is_element_width result) }
+{
+    match family {
+        Family::Vrgatherei16 => 16,
+        _ => sew,
+    }
+}
+
+/// Element `i` of a slide up: none below the offset.
+#[inline(always)]
+fn slid_up<S: WordFile>(
+    form: Form,
+    file: &S,
+    at: &Setting,
+    regs: &Places,
+    sew: u32,
+    most: u32,
+    i: u32,
+) -> Option<u64>
+    requires same { S.vlen file.now ≡ at.now.vlen }
+    requires sound { IsSound (reading form (view_of at.now) regs.now (S.words file.now)) }
+    requires vs2 { (operands_of form.family).vs2 ≡ Single }
+    requires sew { sew ≡ sew_of (reading form (view_of at.now) regs.now (S.words file.now)) }
+    requires width { IsTrue (is_width sew) }
+    requires most { most ≡ vlmax at.now.vlen at.now.vtype }
+    ensures { result ≡ slid_up (lists_of (reading form (view_of at.now) regs.now (S.words file.now))) (lists_of (reading form (view_of at.now) regs.now (S.words file.now))).x i }
+{
+    let offset = number(form, at, regs);
+    if u64::from(i) < offset {
+        None
+    } else {
+        Some(source(form, file, at, regs, sew, most, u64::from(i) - offset))
+    }
+}
+
+/// An index and an offset, or the greatest number where their sum is above it.
+#[inline(always)]
+fn behind(i: u32, offset: u64) -> u64
+    ensures { result ≡ (if nat_lt (i + offset) (2 ^ 64) then i + offset else 2 ^ 64 - 1) }
+{
+    u64::from(i).saturating_add(offset)
+}
+
+/// Element `i` of a slide down: that of vs2 behind the offset, or 0 past the last.
+#[inline(always)]
+fn slid_down<S: WordFile>(
+    form: Form,
+    file: &S,
+    at: &Setting,
+    regs: &Places,
+    sew: u32,
+    most: u32,
+    i: u32,
+) -> Option<u64>
+    requires same { S.vlen file.now ≡ at.now.vlen }
+    requires sound { IsSound (reading form (view_of at.now) regs.now (S.words file.now)) }
+    requires vs2 { (operands_of form.family).vs2 ≡ Single }
+    requires sew { sew ≡ sew_of (reading form (view_of at.now) regs.now (S.words file.now)) }
+    requires width { IsTrue (is_width sew) }
+    requires most { most ≡ vlmax at.now.vlen at.now.vtype }
+    ensures { result ≡ Some (element_or_zero (lists_of (reading form (view_of at.now) regs.now (S.words file.now))) (i + (lists_of (reading form (view_of at.now) regs.now (S.words file.now))).x)) }
+{
+    let place = behind(i, number(form, at, regs));
+    Some(source(form, file, at, regs, sew, most, place))
+}
+
+/// Element `i` of a slide up by one: the first is the integer register.
+#[inline(always)]
+fn slid_one_up<S: WordFile>(
+    form: Form,
+    file: &S,
+    at: &Setting,
+    regs: &Places,
+    sew: u32,
+    most: u32,
+    i: u32,
+) -> Option<u64>
+    requires same { S.vlen file.now ≡ at.now.vlen }
+    requires sound { IsSound (reading form (view_of at.now) regs.now (S.words file.now)) }
+    requires vs2 { (operands_of form.family).vs2 ≡ Single }
+    requires sew { sew ≡ sew_of (reading form (view_of at.now) regs.now (S.words file.now)) }
+    requires width { IsTrue (is_width sew) }
+    requires most { most ≡ vlmax at.now.vlen at.now.vtype }
+    ensures { result ≡ Some (if i == 0 then (lists_of (reading form (view_of at.now) regs.now (S.words file.now))).x % 2 ^ sew else element_or_zero (lists_of (reading form (view_of at.now) regs.now (S.words file.now))) (i - 1)) }
+{
+    if i == 0 {
+        Some(low(sew, number(form, at, regs)))
+    } else {
+        Some(source(form, file, at, regs, sew, most, u64::from(i) - 1))
+    }
+}
+
+/// Element `i` of a slide down by one: the last, at vl - 1, is the integer register.
+#[inline(always)]
+fn slid_one_down<S: WordFile>(
+    form: Form,
+    file: &S,
+    at: &Setting,
+    regs: &Places,
+    sew: u32,
+    most: u32,
+    i: u32,
+) -> Option<u64>
+    requires same { S.vlen file.now ≡ at.now.vlen }
+    requires sound { IsSound (reading form (view_of at.now) regs.now (S.words file.now)) }
+    requires vs2 { (operands_of form.family).vs2 ≡ Single }
+    requires sew { sew ≡ sew_of (reading form (view_of at.now) regs.now (S.words file.now)) }
+    requires width { IsTrue (is_width sew) }
+    requires most { most ≡ vlmax at.now.vlen at.now.vtype }
+    ensures { result ≡ Some (if i + 1 == at.now.vl then (lists_of (reading form (view_of at.now) regs.now (S.words file.now))).x % 2 ^ sew else element_or_zero (lists_of (reading form (view_of at.now) regs.now (S.words file.now))) (i + 1)) }
+{
+    if u64::from(i) + 1 == u64::from(at.vl) {
+        Some(low(sew, number(form, at, regs)))
+    } else {
+        Some(source(form, file, at, regs, sew, most, u64::from(i) + 1))
+    }
+}
+
+/// The index that a gather takes for element `i`: that of vs1, at a width, or the number in its place.
+#[inline(always)]
+fn gathered_index<S: WordFile>(
+    form: Form,
+    file: &S,
+    at: &Setting,
+    regs: &Places,
+    width: u32,
+    i: u32,
+) -> u64
+    requires same { S.vlen file.now ≡ at.now.vlen }
+    requires sound { IsSound (reading form (view_of at.now) regs.now (S.words file.now)) }
+    requires group { IsIndexed (reading form (view_of at.now) regs.now (S.words file.now)) }
+    requires width { width ≡ vs1_width (reading form (view_of at.now) regs.now (S.words file.now)) }
+    requires is_width { IsTrue (is_element_width width) }
+    requires below { i < at.now.vl }
+    ensures { result ≡ gather_index (lists_of (reading form (view_of at.now) regs.now (S.words file.now))) i }
+{
+    match form.first {
+        First::Vector => element_at(file, at, regs.vs1, width, i),
+        First::Integer => number(form, at, regs),
+        First::Signed => number(form, at, regs),
+        First::Unsigned => number(form, at, regs),
+        First::Fixed => number(form, at, regs),
+    }
+}
+
+/// Element `i` of a gather, whose indices have a width.
+#[inline(always)]
+fn gathered<S: WordFile>(
+    form: Form,
+    file: &S,
+    at: &Setting,
+    regs: &Places,
+    sew: u32,
+    most: u32,
+    width: u32,
+    i: u32,
+) -> Option<u64>
+    requires same { S.vlen file.now ≡ at.now.vlen }
+    requires sound { IsSound (reading form (view_of at.now) regs.now (S.words file.now)) }
+    requires vs2 { (operands_of form.family).vs2 ≡ Single }
+    requires sew { sew ≡ sew_of (reading form (view_of at.now) regs.now (S.words file.now)) }
+    requires width { IsTrue (is_width sew) }
+    requires most { most ≡ vlmax at.now.vlen at.now.vtype }
+    requires group { IsIndexed (reading form (view_of at.now) regs.now (S.words file.now)) }
+    requires index { width ≡ vs1_width (reading form (view_of at.now) regs.now (S.words file.now)) }
+    requires is_width { IsTrue (is_element_width width) }
+    requires below { i < at.now.vl }
+    ensures { result ≡ Some (element_or_zero (lists_of (reading form (view_of at.now) regs.now (S.words file.now))) (gather_index (lists_of (reading form (view_of at.now) regs.now (S.words file.now))) i)) }
+{
+    let index = gathered_index(form, file, at, regs, width, i);
+    Some(source(form, file, at, regs, sew, most, index))
+}
+
+/// Word `w` of the destination of a slide or a gather, where `f` answers what an element becomes.
+#[inline(always)]
+fn by_index<S: WordFile, F: Fn(u32) -> Option<u64>>(
+    form: Form,
+    file: &S,
+    at: &Setting,
+    regs: &Places,
+    sew: u32,
+    w: u32,
+    f: F,
+) -> Word
+    requires same { S.vlen file.now ≡ at.now.vlen }
+    requires sound { IsSound (reading form (view_of at.now) regs.now (S.words file.now)) }
+    requires kind { IsTrue (is_move form.family) }
+    requires sew { sew ≡ sew_of (reading form (view_of at.now) regs.now (S.words file.now)) }
+    requires width { IsTrue (is_width sew) }
+    requires within { w < length (destination_words (reading form (view_of at.now) regs.now (S.words file.now))) }
+    requires callable { (i : ℕ) → i < at.now.vl → F.pre f i }
+    requires moves { (i : ℕ) → i < at.now.vl → (o : Option ℕ) → F.post f i o → o ≡ moved_by (rule_of form.family) (lists_of (reading form (view_of at.now) regs.now (S.words file.now))) i }
+    ensures value { result.value ≡ made_word (reading form (view_of at.now) regs.now (S.words file.now)) w }
+    ensures sat { result.sat ≡ word_saturates (reading form (view_of at.now) regs.now (S.words file.now)) w }
+{
+    moved_by_index(form, file, at, regs, sew, w, f)
+}
+
+/// Word `w` of the destination of a slide.
+#[inline(always)]
+pub(crate) fn slid_word<S: WordFile>(
+    form: Form,
+    file: &S,
+    at: &Setting,
+    regs: &Places,
+    sew: u32,
+    w: u32,
+) -> Word
+    requires same { S.vlen file.now ≡ at.now.vlen }
+    requires sound { IsSound (reading form (view_of at.now) regs.now (S.words file.now)) }
+    requires kind { IsTrue (is_slide form.family) }
+    requires vs2 { (operands_of form.family).vs2 ≡ Single }
+    requires sew { sew ≡ sew_of (reading form (view_of at.now) regs.now (S.words file.now)) }
+    requires width { IsTrue (is_width sew) }
+    requires within { w < length (destination_words (reading form (view_of at.now) regs.now (S.words file.now))) }
+    ensures value { result.value ≡ made_word (reading form (view_of at.now) regs.now (S.words file.now)) w }
+    ensures sat { result.sat ≡ word_saturates (reading form (view_of at.now) regs.now (S.words file.now)) w }
+{
+    let most = at.vlmax();
+    match form.family {
+        Family::Vslideup => by_index(
+            form,
+            file,
+            at,
+            regs,
+            sew,
+            w,
+            |i| slid_up(form, file, at, regs, sew, most, i),
+        ),
+        Family::Vslidedown => by_index(
+            form,
+            file,
+            at,
+            regs,
+            sew,
+            w,
+            |i| slid_down(form, file, at, regs, sew, most, i),
+        ),
+        Family::Vslide1up => by_index(
+            form,
+            file,
+            at,
+            regs,
+            sew,
+            w,
+            |i| slid_one_up(form, file, at, regs, sew, most, i),
+        ),
+        Family::Vslide1down => by_index(
+            form,
+            file,
+            at,
+            regs,
+            sew,
+            w,
+            |i| slid_one_down(form, file, at, regs, sew, most, i),
+        ),
+        _ => unreachable!(),
+    }
+}
+
+/// Word `w` of the destination of a gather.
+#[inline(always)]
+pub(crate) fn gathered_word<S: WordFile>(
+    form: Form,
+    file: &S,
+    at: &Setting,
+    regs: &Places,
+    sew: u32,
+    w: u32,
+) -> Word
+    requires same { S.vlen file.now ≡ at.now.vlen }
+    requires sound { IsSound (reading form (view_of at.now) regs.now (S.words file.now)) }
+    requires kind { IsTrue (is_gather form.family) }
+    requires group { IsIndexed (reading form (view_of at.now) regs.now (S.words file.now)) }
+    requires vs2 { (operands_of form.family).vs2 ≡ Single }
+    requires sew { sew ≡ sew_of (reading form (view_of at.now) regs.now (S.words file.now)) }
+    requires width { IsTrue (is_width sew) }
+    requires within { w < length (destination_words (reading form (view_of at.now) regs.now (S.words file.now))) }
+    ensures value { result.value ≡ made_word (reading form (view_of at.now) regs.now (S.words file.now)) w }
+    ensures sat { result.sat ≡ word_saturates (reading form (view_of at.now) regs.now (S.words file.now)) w }
+{
+    let most = at.vlmax();
+    let width = index_width(form.family, sew);
+    by_index(
+        form,
+        file,
+        at,
+        regs,
+        sew,
+        w,
+        |i| gathered(form, file, at, regs, sew, most, width, i),
+    )
+}
