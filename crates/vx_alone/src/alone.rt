@@ -211,7 +211,8 @@ impl Alone {
         }
     }
 
-    /// Does an instruction of a class, unless it asks for a service. Answers whether it is legal; one that isn't changes nothing.
+    /// Does an instruction of a class, unless it asks for a service. Answers whether it is legal; where it isn't, nothing
+    /// changes.
     #[tactic(auto, using(crate::proofs::Performable::names_registers))]
     fn execute(&mut self, class: Class, i: Instr) -> bool
         requires running { self.old.over ≡ None }
@@ -250,8 +251,8 @@ impl Alone {
         }
     }
 
-    /// Reads and changes a control register where vectors are enabled, and answers whether that is legal; where it isn't, nothing
-    /// changes.
+    /// Reads and changes a control register where vectors are enabled, and answers whether that is legal; where it isn't,
+    /// nothing changes.
     fn control(&mut self, i: Instr) -> bool
         requires running { self.old.over ≡ None }
         requires registers { NamesRegisters i }

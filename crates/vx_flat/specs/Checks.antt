@@ -1,5 +1,5 @@
--- The check of an access to memory: the causes of RISC-V Privileged 1.12, section 4.1.8; that a misaligned access fails, and does
--- so whatever its page grants, is this project's own choice.
+-- The check of an access to memory: the causes of RISC-V Privileged 1.12, section 4.1.8; that a misaligned access fails,
+-- whatever its page grants, is this project's own choice.
 use Rattle.std.specs.Prelude.{ℕ, ◌%◌, not, ◌==◌, Option, Some, None, if◌then◌else◌}
 use Rattle.vx_base.specs.declared.machine.Want.{Want}
 use Rattle.vx_base.specs.declared.machine.Want.TheVariants.{Fetch, Load, Store}

@@ -1,5 +1,5 @@
--- The run that goes on past a load or a store that faults, which is taken to complete: what of its accesses doesn't fail is done.
--- This project's own: a run of which some memory isn't known yet is a part of it.
+-- The run that goes on past a load or a store that faults, which is taken to complete: those of its accesses that don't fail
+-- are done. This project's own.
 use Rattle.std.specs.Prelude.{ℕ, zero, suc, filter, is_none}
 use Rattle.vx_decode.specs.declared.instr.Instr.{Instr}
 use Rattle.vx_rows.specs.Table.{class_of}

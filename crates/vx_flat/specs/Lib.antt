@@ -5,6 +5,7 @@ pub mod Classes
 pub mod Configure
 pub mod Continued
 pub mod Control
+pub mod Examples
 pub mod Memory
 pub mod Operands
 pub mod Outcome

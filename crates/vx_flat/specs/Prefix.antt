@@ -1,5 +1,5 @@
--- A state in the middle of a vector load or store: its elements below one are done, and vstart tells that one. It is a state like
--- any other, from which the instruction goes on: RISC-V "V" 1.0, section 3.7.
+-- A state in the middle of a vector load or store: its elements below one are done, and vstart tells that one. It is a state
+-- like any other, from which the instruction goes on: RISC-V "V" 1.0, section 3.7.
 use Rattle.std.specs.Prelude.{ℕ, ◌==◌, ◌&&◌, nat_le, Option, Some, None, is_none, if◌then◌else◌, option_and_then}
 use Rattle.vx_decode.specs.declared.instr.Instr.{Instr}
 use Rattle.vx_image.specs.Pages.{Image}

@@ -1,7 +1,7 @@
--- What the operations of RV64IM and Zicsr do: RISC-V Unprivileged ISA 20191213, chapters 2 and 5 (RV32I and RV64I), 7 (M) and
--- 9 (Zicsr); and what those that configure vectors ask for: RISC-V "V" 1.0, section 6. In what follows a and b are the numbers in
--- rs1 and rs2, and n is the immediate, each a number of 64 bits. The operations whose names end in w compute at 32 bits, and
--- sign-extend what they compute.
+-- What the operations of RV64IM and Zicsr do: RISC-V Unprivileged ISA 20191213, chapters 2 and 5 (RV32I and RV64I), 7 (M)
+-- and 9 (Zicsr); and where those that configure vectors have their operands: RISC-V "V" 1.0, section 6. In what follows a and b
+-- are the numbers in rs1 and rs2, and n is the immediate, each a number of 64 bits. The operations whose names end in w compute
+-- at 32 bits, and sign-extend what they compute.
 use Rattle.std.specs.Prelude.{ℕ, ◌+◌, ◌-◌, ◌*◌, ◌%◌, ◌^◌, Bool, not, ◌==◌, nat_lt, int_lt, bit_and, bit_or, bit_xor, List, if◌then◌else◌, slice_index}
 use Rattle.vx_base.specs.Numbers.{reduced, signed}
 use Rattle.vx_bits.specs.Arithmetic.{sum_at, difference_at, product_at, signed_high_at, unsigned_high_at, mixed_high_at, signed_quotient_at, unsigned_quotient_at, signed_remainder_at, unsigned_remainder_at, shifted_left_at, shifted_right_at, sign_shifted_right_at}

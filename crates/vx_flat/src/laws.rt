@@ -5,6 +5,7 @@ ghost use Rattle.vx_rows.specs.Table.{class_of};
 ghost use Rattle.vx_flat.specs.Boot.{booted};
 ghost use Rattle.vx_flat.specs.Classes.{Does};
 ghost use Rattle.vx_flat.specs.Continued.{continued_by};
+ghost use Rattle.vx_flat.specs.Examples.{ExamplesHold};
 ghost use Rattle.vx_flat.specs.Process.{Process, stepped};
 ghost use Rattle.vx_flat.specs.Scalar.{work};
 ghost use Rattle.vx_flat.specs.State.{Flat};
@@ -19,6 +20,11 @@ pub fn output_only_grows()
 /// The run that goes on past faults is the run, as long as that goes on.
 pub fn continued_run_is_the_run()
     ensures { (hart : Hart) (image : Image) (n : ℕ) (s : Flat) → flat hart image n ≡ Some s → continued_by n (booted hart image) ≡ s }
+{}
+
+/// The definitions give what is worked out for some small states.
+pub fn examples_hold()
+    ensures { ExamplesHold }
 {}
 
 /// A step leaves it as it is whether vector instructions are enabled.

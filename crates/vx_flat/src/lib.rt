@@ -1,9 +1,9 @@
 //! What a program computes: the flat machine, which runs one process alone, an instruction at a time, on memory by page.
 //!
-//! The crate is its definitions (`specs/`): what the operations do, memory, the boot of an image on a hart, the step, the run and
-//! its end, states within an instruction, and the run that goes on past faults. It stands on the images of `vx_image`, on
-//! `vx_decode`, on the vector state of `vx_vstate` and on what vector instructions compute and access in `vx_vector`. The crates
-//! above cite it; `vx_alone` is its plain program. Its functions have no code: each states a law of the definitions.
+//! The crate is its definitions (`specs/`): what the operations do, memory, the boot of an image on a hart, the step, the run
+//! and its end, states within an instruction, and the run that goes on past faults. It stands on the images of `vx_image`, on
+//! `vx_decode`, on the vector state of `vx_vstate` and on what vector instructions compute and access in `vx_vector`. The
+//! crates above cite it; `vx_alone` is its plain program. Its functions have no code: each states a law of the definitions.
 #![tactic(auto)]
 
 mod control;
@@ -18,6 +18,7 @@ pub use effect::Effect;
 pub use end::End;
 pub use hart::Hart;
 pub use laws::{
-    continued_run_is_the_run, enabled_vectors_stay, operations_do_as_their_class, output_only_grows,
+    continued_run_is_the_run, enabled_vectors_stay, examples_hold, operations_do_as_their_class,
+    output_only_grows,
 };
 pub use upcoming::Upcoming;

@@ -50,8 +50,8 @@ pub record FaultsAlone (hart : Hart) (image : Image) (n : ℕ) (fault : Fault) (
   pub at : pc ≡ last.pc
   pub wrote : output ≡ last.output
 
--- alone on the hart, the image has this pc and vstart after n instructions, and has written this, which is a prefix of all that it
--- goes on to write
+-- alone on the hart, the image has this pc and vstart after n instructions, and has written this, which is a prefix of all
+-- that it goes on to write
 pub record GoesOnAlone (hart : Hart) (image : Image) (n : ℕ) (pc vstart : ℕ) (output : List ℕ) : Type 0 where
   pub now : Flat
   pub reached : flat hart image n ≡ Some now

@@ -1,5 +1,5 @@
--- What the fields of a system keep: the clock's bounds, that one instruction is in flight at a time, and that vector instructions
--- aren't enabled. This project's own.
+-- What the fields of a system keep: the clock's bounds, that one instruction is in flight at a time, and that vector
+-- instructions aren't enabled. This project's own.
 use Rattle.std.specs.Prelude.{◌≡◌, ◌≤◌, ◌^◌, false}
 use Rattle.std.specs.Option.{ForSome}
 use Rattle.vx_system.specs.declared.system.System.TheInside.{Inside}
