@@ -1,6 +1,6 @@
--- Which vector instructions raise illegal instruction under a setting: the rules of RISC-V "V" 1.0, sections 3.4.4, 5.2, 5.3,
--- 6.3, 7.4, 7.8, 11, 14, 15 and 16, of which the standard reserves some forms alone. That all of these are illegal is this
--- project's own choice.
+-- Which vector instructions raise illegal instruction under a setting, after RISC-V "V" 1.0, sections 3.4.4, 5.2, 5.3, 7.4,
+-- 7.8, 7.9, 11, 14, 15, 16 and 18.2. Which forms are illegal is this project's own choice, and no statement about those that
+-- the standard reserves: so a legal instruction may read one register at two element widths.
 use Rattle.std.specs.Prelude.{ℕ, ◌+◌, ◌*◌, ◌%◌, Bool, true, false, not, ◌==◌, ◌&&◌, ◌||◌, nat_lt, nat_le, List}
 use Rattle.std.specs.List.{list_any}
 use Rattle.vx_rows.specs.Table.{class_of}
@@ -156,7 +156,7 @@ begins_at_first other = false
 abbrev pub begins_late : Instr → SettingView → Bool
 begins_late i at = not (at.vstart == 0) && begins_at_first (class_of i.op)
 
--- ---- 8: the high half of a product at 64 bits, which no unit makes
+-- ---- 8: the high half of a product at 64 bits, also of a fixed-point one: Zve64x leaves them out
 
 abbrev pub is_high_half : Class → Bool
 is_high_half (class.VectorArithmetic family.Vmulh) = true

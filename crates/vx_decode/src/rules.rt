@@ -38,7 +38,7 @@ use vx_rows::{Addressing, Class, Eew, Family, First, Operand, Operands, Second, 
 use vx_vstate::Setting;
 
 /// Whether a vector instruction may be executed under a setting; false exactly where it raises illegal instruction by one
-/// of the rules of RISC-V "V" 1.0, sections 3.4.4, 5.2, 5.3, 6.3, 7.4, 7.8, 11, 14, 15 and 16: vill is set and it needs a
+/// of the rules of RISC-V "V" 1.0, sections 3.4.4, 5.2, 5.3, 7.4, 7.8, 7.9, 11, 14, 15, 16 and 18.2: vill is set and it needs a
 /// configuration; an operand has no such width or number of registers, or begins at a register that isn't a multiple of it;
 /// a segment is too long; it overwrites its mask; or a source in registers that it needs still; or any source, where it
 /// reads elements of other places; it can't begin behind the first element; or 64 bits have no high half of a product.

@@ -3,18 +3,14 @@
 use Rattle.std.specs.Prelude.{ℕ, List, Option, Some, None}
 use Rattle.vx_decode.specs.declared.instr.Instr.{Instr}
 use Rattle.vx_vector.specs.Arithmetic.{words_after, saturates, told}
-use Rattle.vx_vector.specs.Instructions.{reading_of}
+use Rattle.vx_vector.specs.Instructions.{places_of, reading_of}
 use Rattle.vx_vector.specs.Reading.{Reading}
-use Rattle.vx_vector.specs.declared.places.Places.{Places}
 use Rattle.vx_vstate.specs.State.{SettingView, setting_of, finished}
 use Rattle.vx_flat.specs.State.{Flat, register, with_register, following}
 
 -- the vector state as an instruction sees it, with the number in rs1
 abbrev pub setting_at : Flat → Instr → SettingView
 setting_at s i = setting_of s.v (register s i.rs1)
-
-abbrev pub places_of : Instr → Places
-places_of i = record { vd = i.rd; vs1 = i.rs1; vs2 = i.rs2; vm = i.vm; imm = i.imm }
 
 -- what an instruction reads, where it is one of vector arithmetic
 abbrev pub reading_at : Flat → Instr → Option Reading

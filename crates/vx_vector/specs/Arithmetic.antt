@@ -14,7 +14,7 @@ use Rattle.vx_vector.specs.Rules.Rule.{Each, Index, Permute, Reduce, Pack, Put, 
 abbrev pub given : {X : Type 0} → Bool → X → Option X
 given holds x = if holds then Some x else None
 
--- the instruction has its element 0, of those that write no other
+-- i is element 0, and a row that writes it alone does: vstart is below vl
 abbrev pub has_first : Reading → ℕ → Bool
 has_first r i = i == 0 && nat_lt r.at.vstart r.at.vl
 

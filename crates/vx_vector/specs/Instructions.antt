@@ -21,6 +21,10 @@ reading_as class shape at places words = None
 abbrev pub reading_of : Op → SettingView → Places → (words : List ℕ) → Option Reading
 reading_of op at places words = reading_as (class_of op) (shape_of op) at places words
 
+-- where an instruction has its operands
+abbrev pub places_of : Instr → Places
+places_of i = record { vd = i.rd; vs1 = i.rs1; vs2 = i.rs2; vm = i.vm; imm = i.imm }
+
 -- the instruction of an operation with its operands at these places
 abbrev pub instr_at : Op → Places → Instr
 instr_at op places = record { op = op; rd = places.vd; rs1 = places.vs1; rs2 = places.vs2; imm = places.imm; vm = places.vm; nf = 0 }

@@ -1,4 +1,4 @@
--- What depends on elements at other indices than an element's own: RISC-V "V" 1.0, sections 14 (reductions), 15.2 to 15.6
+-- What depends on elements at other indices than an element's own: RISC-V "V" 1.0, sections 14 (reductions), 15.2 to 15.8
 -- (masks) and 16 (permutations).
 use Rattle.std.specs.Prelude.{ℕ, ◌+◌, ◌-◌, Bool, true, false, ◌==◌, ◌&&◌, nat_lt, List, [], ◌∷◌, map, fold, take, get_or, if◌then◌else◌, Option, Some, None}
 
@@ -20,7 +20,7 @@ pub record Lists : Type 0 where
 abbrev pub element_or_zero : Lists → ℕ → ℕ
 element_or_zero s i = get_or s.vs2 i 0
 
--- the index that a gather takes for element i
+-- the index that a gather takes for element i: the element of vs1, or x where no register stands there (vs1 is empty then)
 abbrev pub gather_index : Lists → ℕ → ℕ
 gather_index s i = get_or s.vs1 i s.x
 

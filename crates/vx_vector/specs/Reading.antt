@@ -60,7 +60,7 @@ module _ (r : Reading) where
   abbrev pub mask_bit : ℕ → Bool
   mask_bit i = is_set (element_of 0 1 i)
 
-  -- how many elements an operand has: one, as many as whole registers hold, or VLMAX
+  -- how many elements an operand has: none, one, as many as whole registers hold, or VLMAX
   abbrev pub count_in : Operand → ℕ
   count_in Absent = 0
   count_in Element = 1

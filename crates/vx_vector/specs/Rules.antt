@@ -21,7 +21,7 @@ pub data Rule : Type 0 where
   Index : (ℕ → ℕ → ℕ) → Rule
   -- each active element, of elements at other indices; None leaves it unchanged
   Permute : (Lists → ℕ → Option ℕ) → Rule
-  -- element 0: that of vs1, joined at SEW with each active element of vs2 in turn
+  -- element 0: that of vs1, joined with each active element of vs2 in turn, of SEW and the two
   Reduce : ((sew sum x : ℕ) → ℕ) → Rule
   -- the elements of vs2 that the mask in vs1 chooses, from element 0 on
   Pack : Rule
@@ -30,7 +30,7 @@ pub data Rule : Type 0 where
   -- the integer register rd
   Tell : (Lists → ℕ) → Rule
 
--- a rule of a and b, at SEW
+-- a rule of SEW, a and b
 abbrev of_ab : (ℕ → ℕ → ℕ → ℕ) → Rule
 of_ab f = Each (λ n. plain (f n.sew n.a n.b))
 
@@ -46,7 +46,7 @@ of_a f = Each (λ n. plain (f n.sew n.a))
 abbrev of_abd : ℕ → (ℕ → ℕ → ℕ → ℕ → ℤ) → Rule
 of_abd times f = Each (λ n. plain (reduced (times * n.sew) (f n.sew n.a n.b n.d)))
 
--- a comparison of a and b, at SEW
+-- a comparison, of SEW, a and b
 abbrev compares : (ℕ → ℕ → ℕ → Bool) → Rule
 compares f = Each (λ n. plain (truth (f n.sew n.a n.b)))
 

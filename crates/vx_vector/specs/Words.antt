@@ -44,7 +44,7 @@ module _ (r : Reading) where
   words_told_of operand = words_holding (vs2_width r)
 
   -- the words that are handled one after another: those of the destination; of a reduction, and of a row that counts or
-  -- finds bits of a mask, those of vs2; of the moves of element 0, the first
+  -- finds bits of a mask, those of vs2; of the moves of element 0, the first, into a vector where vstart is below vl
   abbrev pub handled_by : Rule → List ℕ
   handled_by (Each f) = words_holding (destination_width r)
   handled_by (Index f) = words_holding (destination_width r)

@@ -2,7 +2,8 @@
 use Rattle.std.specs.Prelude.{ℕ, ◌*◌, ◌/◌, Bool, ◌==◌, ◌||◌, max}
 use Rattle.vx_vstate.specs.Vtype.{sew, lmul_eighths}
 
--- EMUL, the registers of a group whose elements have a width of their own, in eighths: EEW / SEW * LMUL
+-- EMUL, the registers of a group whose elements have a width of their own, in eighths: EEW / SEW * LMUL. What is below an
+-- eighth is 0
 abbrev pub emul_eighths : (vtype width : ℕ) → ℕ
 emul_eighths vtype width = width * lmul_eighths vtype / sew vtype
 

@@ -75,6 +75,7 @@ impl Setting {
     }
 
     /// VLMAX, the elements of a group: LMUL * VLEN / SEW. It is at most VLEN, and vl is at most VLMAX.
+    /// While vill is set it means nothing (SEW then reads as 8, LMUL as 1), and vl is 0.
     pub fn vlmax(&self) -> u32
         ensures is { result ≡ vlmax self.now.vlen self.now.vtype }
         ensures in_range { result ≤ self.now.vlen }
