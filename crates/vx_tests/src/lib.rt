@@ -12,6 +12,8 @@ mod base;
 #[cfg(test)]
 mod bits;
 #[cfg(test)]
+mod decode;
+#[cfg(test)]
 mod dis;
 #[cfg(test)]
 mod elf;
