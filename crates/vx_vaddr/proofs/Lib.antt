@@ -1,0 +1,4 @@
+pub mod Fields
+pub mod Offsets
+pub mod Places
+pub mod Sizes

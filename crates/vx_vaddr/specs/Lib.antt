@@ -1,0 +1,4 @@
+pub mod Items
+pub mod Movements
+pub mod Patterns
+pub mod Views
