@@ -1,5 +1,5 @@
--- Rows whose operands have other widths than the destination: a word of the destination is made of words of vs2, or of a part of
--- one. RISC-V "V" 1.0, sections 5.2, 10.2 and 10.3.
+-- Rows whose operands have other widths than the destination: a word of the destination is made of words of vs2, or of a
+-- part of one. RISC-V "V" 1.0, sections 5.2, 10.2 and 10.3.
 use Rattle.std.specs.Prelude.{◌≡◌, ℕ, ◌+◌, ◌*◌, ◌/◌, ◌%◌, ◌<◌, ◌≤◌, Bool, true, false, ◌&&◌, IsTrue, if◌then◌else◌}
 use Rattle.vx_bits.specs.Width.{is_width}
 use Rattle.vx_packed.specs.Joined.{lane}
