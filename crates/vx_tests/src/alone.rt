@@ -1,5 +1,7 @@
+use std::alloc::{AllocError, Global};
 use std::test::Fail;
 use vx_alone::{Alone, End, Turn};
+use vx_base::Fault;
 use vx_image::raw_image;
 
 /// The program `write(1, 0x10024, 3)`, then `exit(0)`, and the text "hi\n" with one more byte.
@@ -11,7 +13,7 @@ pub const HI: [u8; 40] = [
 
 #[test]
 fn a_process_writes_a_text_and_exits(rt: HostRuntime) -> Result<(), Fail> {
-    let mut machine = Alone::boot(rt.alloc(), &raw_image(rt.alloc(), &HI)?)?;
+    let mut machine = Alone::boot(rt.alloc(), &raw_image(rt.alloc(), &HI)?, 256)?;
     for _ in 0..8 {
         assert_eq!(rt; machine.step(), Turn::Next);
     }
@@ -22,5 +24,73 @@ fn a_process_writes_a_text_and_exits(rt: HostRuntime) -> Result<(), Fail> {
         assert_eq!(rt; machine.count(), 9);
         assert_eq!(rt; machine.arch().pc, 0x10020);
     }
+    Ok(())
+}
+
+/// The bytes of instruction words.
+fn bytes_of(alloc: Global, words: &[u32]) -> Result<Vec<u8>, AllocError> {
+    let mut bytes = Vec::new(alloc);
+    for word in words {
+        bytes.extend_from_slice(&word.to_le_bytes())?;
+    }
+    Ok(bytes)
+}
+
+#[test]
+fn vectors_are_configured_and_controlled(rt: HostRuntime) -> Result<(), Fail> {
+    let program = [
+        0x0640_0513, // addi a0, zero, 100
+        0x0115_72d7, // vsetvli t0, a0, e32, m2, tu, mu
+        0xc200_25f3, // csrrs a1, vl, zero
+        0xc210_2673, // csrrs a2, vtype, zero
+        0xc220_26f3, // csrrs a3, vlenb, zero
+        0x00a3_d073, // csrrwi zero, vxrm, 7
+        0x00f0_e773, // csrrsi a4, vcsr, 1
+        0x00f1_77f3, // csrrci a5, vcsr, 2
+        0x00a0_2873, // csrrs a6, vxrm, zero
+        0xfff0_0313, // addi t1, zero, -1
+        0x0083_1073, // csrrw zero, vstart, t1
+        0x0080_28f3, // csrrs a7, vstart, zero
+        0xc203_2073, // csrrs zero, vl, t1
+    ];
+    let bytes = bytes_of(rt.alloc(), &program)?;
+    let mut machine = Alone::boot(rt.alloc(), &raw_image(rt.alloc(), bytes.as_slice())?, 256)?;
+    for _ in 0..12 {
+        assert_eq!(rt; machine.step(), Turn::Next);
+    }
+    let x = machine.arch().regs.x;
+    assert_eq!(rt; [x[5], x[11], x[12], x[13]], [16, 16, 0x11, 32]);
+    assert_eq!(rt; [x[14], x[15], x[16], x[17]], [6, 7, 2, 255]);
+    let fault = Fault {
+        cause: 2,
+        tval: 0xc203_2073,
+        vstart: 255,
+    };
+    assert_eq!(rt; machine.step(), Turn::Faulted(fault));
+    Ok(())
+}
+
+#[test]
+fn keeping_vl_at_another_ratio_sets_vill(rt: HostRuntime) -> Result<(), Fail> {
+    let program = [
+        0xc112_72d7, // vsetivli t0, 4, e32, m2, tu, mu
+        0x0190_7057, // vsetvli zero, zero, e64, m2, tu, mu
+        0xc210_2673, // csrrs a2, vtype, zero
+        0x0221_80d7, // vadd.vv v1, v2, v3
+    ];
+    let bytes = bytes_of(rt.alloc(), &program)?;
+    let mut machine = Alone::boot(rt.alloc(), &raw_image(rt.alloc(), bytes.as_slice())?, 256)?;
+    for _ in 0..3 {
+        assert_eq!(rt; machine.step(), Turn::Next);
+    }
+    let x = machine.arch().regs.x;
+    assert_eq!(rt; [x[5], x[12]], [4, 0x8000_0000_0000_0000]);
+    assert_eq!(rt; machine.arch().v.vl(), 0);
+    let fault = Fault {
+        cause: 2,
+        tval: 0x0221_80d7,
+        vstart: 0,
+    };
+    assert_eq!(rt; machine.step(), Turn::Faulted(fault));
     Ok(())
 }
