@@ -1,4 +1,11 @@
+pub mod Apart
+pub mod Between
 pub mod Classes
 pub mod Continues
+pub mod Done
 pub mod Enabled
 pub mod Grows
+pub mod Puts
+pub mod Rules
+pub mod Splits
+pub mod Steps

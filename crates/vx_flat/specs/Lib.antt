@@ -14,6 +14,7 @@ pub mod Process
 pub mod Run
 pub mod Scalar
 pub mod Service
+pub mod Splits
 pub mod State
 pub mod Step
 pub mod Transfers

@@ -1,0 +1,206 @@
+-- The step from a state within an instruction is the step from the state before it.
+use Rattle.std.proofs.Common.{◌≡◌, ℕ, ◌+◌, ◌/◌, ◌%◌, ◌^◌, ◌<◌, ◌≤◌, Bool, true, false, not, ◌&&◌, nat_eq, List, if◌then◌else◌, refl, sym, ap, ◌∙◌, arith}
+use Rattle.std.specs.List.{All}
+use Rattle.std.specs.Prelude.{Option, Some, None, option_and_then}
+use Rattle.std.proofs.lemmas.Bool.{false≢true, and_parts, not-true}
+use Rattle.std.proofs.lemmas.Nat.{mod_below}
+use Rattle.std.proofs.lemmas.Option.{none-some, same_Some}
+use Rattle.vx_base.specs.declared.machine.Want.TheVariants.{Fetch, Store}
+use Rattle.vx_decode.specs.Decoded.{decoded}
+use Rattle.vx_decode.specs.Legal.{is_illegal}
+use Rattle.vx_decode.specs.declared.instr.Instr.{Instr}
+use Rattle.vx_rows.specs.Table.{class_of}
+use Rattle.vx_rows.specs.declared.row.Addressing.{Addressing}
+use Rattle.vx_rows.specs.declared.row.Class.{Class}
+use Rattle.vx_rows.specs.declared.row.Class.TheVariants.{VectorLoad, VectorStore}
+use Rattle.vx_rows.specs.declared.row.Eew.{Eew}
+use Rattle.vx_vstate.specs.Registers.{is_byte_width}
+use Rattle.vx_vector.specs.Accesses.{Access, Movement, access_bits, access_of, accesses_between}
+use Rattle.vx_vector.specs.Movements.{IsSoundMovement}
+use Rattle.vx_flat.specs.Memory.{permits, number_at}
+use Rattle.vx_flat.specs.Prefix.{transfer_as, transfer_next, prefix_of, prefix_at}
+use Rattle.vx_flat.specs.Splits.{IsWellFormed}
+use Rattle.vx_flat.specs.State.{Flat}
+use Rattle.vx_flat.specs.Step.{upcoming, meaning, is_legal, is_legal_as, is_executed, word_at_pc, performed, performed_as, step}
+use Rattle.vx_flat.specs.Transfers.{Transfer, transfer, failure_of, first_failure}
+use Rattle.vx_flat.specs.Transfers.Direction.{Loading, Storing}
+use Rattle.vx_flat.specs.Vectors.{setting_at}
+use Rattle.vx_flat.specs.declared.upcoming.Upcoming.{Upcoming}
+use Rattle.vx_flat.specs.declared.upcoming.Upcoming.TheVariants.{Denied, Illegal, Instruction}
+use Rattle.vx_flat.proofs.Apart.{by_width}
+use Rattle.vx_flat.proofs.Between.{between_all}
+use Rattle.vx_flat.proofs.Done.{loads-memory, done-permits, IsElsewhere, stores-leave, none-fails, passes}
+use Rattle.vx_flat.proofs.Puts.{other-page, permitted-below, word-stays}
+use Rattle.vx_flat.proofs.Rules.{load-legal-alike, store-legal-alike}
+use Rattle.vx_flat.proofs.Splits.{Laws, IsRow, prefix-parts, there, from-there, store-sound, load-splits, store-splits}
+
+-- ---- what comes next
+
+abbrev is_instruction : Upcoming → Bool
+is_instruction Denied = false
+is_instruction (Illegal word) = false
+is_instruction (Instruction i) = true
+
+abbrev instruction_or : Instr → Upcoming → Instr
+instruction_or i Denied = i
+instruction_or i (Illegal word) = i
+instruction_or i (Instruction j) = j
+
+record IsNext (s : Flat) (i : Instr) : Type 0 where
+  pub fetched : permits s.memory s.pc Fetch ≡ true
+  pub word : decoded (word_at_pc s) ≡ Some i
+  pub legal : is_legal s i ≡ true
+
+when-fetched : (b : Bool) (u : Upcoming) (i : Instr) → (if b then u else Denied) ≡ Instruction i → (b ≡ true) × (u ≡ Instruction i)
+when-fetched true u i h = (refl, h)
+when-fetched false u i h = absurd (false≢true (ap is_instruction h))
+
+when-legal : (b : Bool) (word : ℕ) (j i : Instr) → (if b then Instruction j else Illegal word) ≡ Instruction i → (b ≡ true) × (j ≡ i)
+when-legal true word j i h = (refl, ap (instruction_or i) h)
+when-legal false word j i h = absurd (false≢true (ap is_instruction h))
+
+when-decoded : (s : Flat) (word : ℕ) (o : Option Instr) (i : Instr) → meaning s word o ≡ Instruction i → (o ≡ Some i) × (is_legal s i ≡ true)
+when-decoded s word None i h = absurd (false≢true (ap is_instruction h))
+when-decoded s word (Some j) i h =
+    let parts = when-legal (is_legal s j) word j i h in
+    (ap Some parts.1, ap (is_legal s) (sym parts.1) ∙ parts.0)
+
+next-parts : (s : Flat) (i : Instr) → upcoming s ≡ Instruction i → IsNext s i
+unfolding upcoming
+next-parts s i h =
+    let fetched = when-fetched (permits s.memory s.pc Fetch) (meaning s (word_at_pc s) (decoded (word_at_pc s))) i h in
+    let parts = when-decoded s (word_at_pc s) (decoded (word_at_pc s)) i fetched.1 in
+    record { fetched = fetched.0; word = parts.0; legal = parts.1 }
+
+next-is : (s : Flat) (i : Instr) → IsNext s i → upcoming s ≡ Instruction i
+unfolding upcoming
+next-is s i n =
+    ap (λ b. if b then meaning s (word_at_pc s) (decoded (word_at_pc s)) else Denied) n.fetched
+    ∙ ap (meaning s (word_at_pc s)) n.word
+    ∙ ap (λ b. if b then Instruction i else Illegal (word_at_pc s)) n.legal
+
+performed-is : (s : Flat) (i : Instr) (c : Class) → class_of i.op ≡ c → performed s (Instruction i) ≡ performed_as c s i
+unfolding performed
+performed-is s i c q = ap (λ c. performed_as c s i) q
+
+step-is : (s : Flat) (i : Instr) (c : Class) → class_of i.op ≡ c → upcoming s ≡ Instruction i → step s ≡ performed_as c s i
+step-is s i c q h = ap (performed s) h ∙ performed-is s i c q
+
+-- ---- where accesses of a store may lie
+
+-- an access of so many bits that is aligned lies on one page
+on-one-page : (width address : ℕ) → is_byte_width width ≡ true → address % (width / 8) ≡ 0 → address % 4096 + width / 8 ≤ 4096
+on-one-page width address h aligned =
+    by_width (λ w. address % (w / 8) ≡ 0 → address % 4096 + w / 8 ≤ 4096) width (λ e. omega arith) (λ e. omega arith) (λ e. omega arith) (λ e. omega arith) h aligned
+
+record IsBounded (a : Access) : Type 0 where
+  pub page : a.address % a.width ≡ 0 → a.address % 4096 + a.width ≤ 4096
+  pub below : a.address < 2 ^ 64
+
+bounded : (m : Movement) (k : ℕ) → IsSoundMovement m → All IsBounded (accesses_between m 0 k)
+bounded m k sound =
+    between_all IsBounded m 0 k
+    (λ x f above below inside of. record {
+      page = on-one-page (access_bits m) (access_of m x f).address sound.width;
+      below = mod_below _ (2 ^ 64) (omega arith);
+    })
+
+both-all : {X : Type 0} (P Q R : X → Type 0) → ((x : X) → P x → Q x → R x) → (xs : List X) → All P xs → All Q xs → All R xs
+both-all P Q R f xs p q k d l = f _ (p k d l) (q k d l)
+
+module _ (L : Laws) (a : Addressing) (e : Eew) (s : Flat) (i : Instr) (k : ℕ) (u : Flat) (w : IsWellFormed s) (h : upcoming s ≡ Instruction i) where
+  next : IsNext s i
+  next = next-parts s i h
+
+  illegal : (c : Class) → class_of i.op ≡ c → (is_executed s.vectors_enabled c && not (is_illegal i (setting_at s i))) ≡ true → IsRow c s i
+  illegal c q legal = record {
+    valid = L.valid (word_at_pc s) i next.word;
+    row = q;
+    legal = not-true (is_illegal i (setting_at s i)) (and_parts (is_executed s.vectors_enabled c) (not (is_illegal i (setting_at s i))) legal).1;
+  }
+
+  load-row : class_of i.op ≡ VectorLoad a e → IsRow (VectorLoad a e) s i
+  load-row q = illegal (VectorLoad a e) q (ap (λ c. is_executed s.vectors_enabled c && is_legal_as c s i) (sym q) ∙ next.legal)
+
+  store-row : class_of i.op ≡ VectorStore a e → IsRow (VectorStore a e) s i
+  store-row q = illegal (VectorStore a e) q (ap (λ c. is_executed s.vectors_enabled c && is_legal_as c s i) (sym q) ∙ next.legal)
+
+  load-next : class_of i.op ≡ VectorLoad a e → upcoming (there Loading a e s i k) ≡ Instruction i
+  load-next q =
+      let after = there Loading a e s i k in
+      let below = accesses_between (transfer Loading a e s i).movement 0 k in
+      let word : word_at_pc after ≡ word_at_pc s = ap (λ m. number_at m s.pc 4) (loads-memory below s) in
+      let legal : is_legal after i ≡ is_legal s i =
+      ap (λ c. is_executed s.vectors_enabled c && is_legal_as c after i) q
+      ∙ ap (λ b. is_executed s.vectors_enabled (VectorLoad a e) && not b) (load-legal-alike a e i (setting_at s i) k q)
+      ∙ sym (ap (λ c. is_executed s.vectors_enabled c && is_legal_as c s i) q) in
+      next-is after i (record {
+        fetched = done-permits Loading below s s.pc Fetch ∙ next.fetched;
+        word = ap decoded word ∙ next.word;
+        legal = legal ∙ next.legal;
+      })
+
+  elsewhere : IsSoundMovement (transfer Storing a e s i).movement → (good : first_failure Storing s.memory (accesses_between (transfer Storing a e s i).movement 0 k) ≡ None) → All (IsElsewhere s.pc) (accesses_between (transfer Storing a e s i).movement 0 k)
+  elsewhere sound good =
+      both-all (λ x. failure_of Storing s.memory x ≡ None) IsBounded (IsElsewhere s.pc)
+      (λ x p q.
+      let checked = passes s.memory Store x.address x.width p in
+      record {
+        other = other-page s.memory x.address s.pc Store checked.1 (w.code s.pc next.fetched);
+        fits = q.page checked.0;
+        below = q.below;
+      })
+      (accesses_between (transfer Storing a e s i).movement 0 k)
+      (none-fails Storing s.memory (accesses_between (transfer Storing a e s i).movement 0 k) good)
+      (bounded (transfer Storing a e s i).movement k sound)
+
+  store-next : class_of i.op ≡ VectorStore a e → (good : first_failure Storing s.memory (accesses_between (transfer Storing a e s i).movement 0 k) ≡ None) → upcoming (there Storing a e s i k) ≡ Instruction i
+  store-next q good =
+      let after = there Storing a e s i k in
+      let below = accesses_between (transfer Storing a e s i).movement 0 k in
+      let apart = elsewhere (store-sound L a e s i k u w.vectors (store-row q)) good in
+      let word : word_at_pc after ≡ word_at_pc s = word-stays s.memory after.memory s.pc w.aligned (permitted-below s.memory s.pc Fetch next.fetched) (stores-leave s.pc below s apart) in
+      let legal : is_legal after i ≡ is_legal s i =
+      ap (λ c. is_executed s.vectors_enabled c && is_legal_as c after i) q
+      ∙ ap (λ b. is_executed s.vectors_enabled (VectorStore a e) && not b) (store-legal-alike a e i (setting_at s i) k q)
+      ∙ sym (ap (λ c. is_executed s.vectors_enabled c && is_legal_as c s i) q) in
+      next-is after i (record {
+        fetched = done-permits Storing below s s.pc Fetch ∙ next.fetched;
+        word = ap decoded word ∙ next.word;
+        legal = legal ∙ next.legal;
+      })
+
+  load-step : class_of i.op ≡ VectorLoad a e → prefix_of (transfer Loading a e s i) k s ≡ Some u → step u ≡ step s
+  load-step q p =
+      let comes : upcoming u ≡ Instruction i = ap upcoming (from-there a e s i k u Loading p) ∙ load-next q in
+      step-is u i (VectorLoad a e) q comes
+      ∙ load-splits L a e s i k u w.vectors (load-row q) p
+      ∙ sym (step-is s i (VectorLoad a e) q h)
+
+  store-step : class_of i.op ≡ VectorStore a e → prefix_of (transfer Storing a e s i) k s ≡ Some u → step u ≡ step s
+  store-step q p =
+      let comes : upcoming u ≡ Instruction i = ap upcoming (from-there a e s i k u Storing p) ∙ store-next q (prefix-parts (transfer Storing a e s i) k s u p).good in
+      step-is u i (VectorStore a e) q comes
+      ∙ store-splits a e s i k u p
+      ∙ sym (step-is s i (VectorStore a e) q h)
+
+-- ---- any instruction
+
+step-of : (L : Laws) (s : Flat) (i : Instr) (k : ℕ) (u : Flat) → IsWellFormed s → upcoming s ≡ Instruction i → (c : Class) → class_of i.op ≡ c → option_and_then (λ (t : Transfer). prefix_of t k s) (transfer_as c s i) ≡ Some u → step u ≡ step s
+step-of L s i k u w h (VectorLoad a e) q p = load-step L a e s i k u w h q p
+step-of L s i k u w h (VectorStore a e) q p = store-step L a e s i k u w h q p
+step-of L s i k u w h c q p = absurd (none-some u p)
+
+step-next : (L : Laws) (s : Flat) (k : ℕ) (u : Flat) → IsWellFormed s → (x : Upcoming) → upcoming s ≡ x → option_and_then (λ (t : Transfer). prefix_of t k s) (transfer_next s x) ≡ Some u → step u ≡ step s
+step-next L s k u w Denied h p = absurd (none-some u p)
+step-next L s k u w (Illegal word) h p = absurd (none-some u p)
+step-next L s k u w (Instruction i) h p = step-of L s i k u w h (class_of i.op) refl p
+
+here-or-on : (b : Bool) (s u : Flat) (on : Option Flat) → (on ≡ Some u → step u ≡ step s) → (if b then Some s else on) ≡ Some u → step u ≡ step s
+here-or-on true s u on f h = ap step (sym (same_Some s u h))
+here-or-on false s u on f h = f h
+
+pub step-splits : Laws → (s u : Flat) (k : ℕ) → IsWellFormed s → prefix_at k s ≡ Some u → step u ≡ step s
+step-splits L s u k w h =
+    here-or-on (nat_eq k s.v.vstart) s u (option_and_then (λ (t : Transfer). prefix_of t k s) (transfer_next s (upcoming s)))
+    (step-next L s k u w (upcoming s) refl) h
