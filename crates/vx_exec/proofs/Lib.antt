@@ -1,1 +1,4 @@
 pub mod Arithmetic
+pub mod Executes
+pub mod Puts
+pub mod Runs

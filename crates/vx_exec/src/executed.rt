@@ -37,7 +37,7 @@ fn places(i: &Instr) -> Places
 
 /// What a legal instruction reads of a file is sound.
 #[inline(always)]
-fn reads_soundly<S: WordFile>(i: &Instr, at: &Setting, file: &S)
+pub(crate) fn reads_soundly<S: WordFile>(i: &Instr, at: &Setting, file: &S)
     requires same { S.vlen file.now ≡ at.now.vlen }
     requires executable { IsExecutable i.now (view_of at.now) }
     ensures { IsSound (reads i.now (view_of at.now) (S.words file.now)) }

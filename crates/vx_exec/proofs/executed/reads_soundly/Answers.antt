@@ -20,6 +20,6 @@ returns g c =
       vxrm_in_range = c.args.at.now.vxrm_in_range;
     } in
     c.legal_readings_are_sound.ensures c.args.i.now.op at (places_of c.args.i.now) words (reads c.args.i.now at words)
-      (is-legal c.args.i.now at setting c.requires.executable)
-      (c.word-word.ensures.all ∙ ap words_of_all c.requires.same)
-      (c.instructions_read.ensures c.args.i.now at words c.requires.executable)
+    (is-legal c.args.i.now at setting c.requires.executable)
+    (c.word-word.ensures.all ∙ ap words_of_all c.requires.same)
+    (c.instructions_read.ensures c.args.i.now at words c.requires.executable)

@@ -1,0 +1,141 @@
+//! A whole instruction of vector arithmetic, done on the vector state.
+
+ghost use Rattle.std.specs.Prelude.{◌≡◌, ℕ, ◌+◌, ◌<◌, ◌≤◌, ◌||◌, false, length, slice_index, vec_len, None};
+ghost use Rattle.vx_exec.specs.Executed.{IsExecutable, reads};
+ghost use Rattle.vx_exec.specs.Runs.{with_words};
+ghost use Rattle.vx_mask.specs.Kinds.{is_telling};
+ghost use Rattle.vx_packed.specs.Joined.{some_below};
+ghost use Rattle.vx_rows.specs.Table.{class_of};
+ghost use Rattle.vx_rows.specs.declared.row.Class.TheVariants.{VectorArithmetic};
+ghost use Rattle.vx_vector.specs.Arithmetic.{saturates, told, words_after};
+ghost use Rattle.vx_vector.specs.Laws.{word_saturates};
+ghost use Rattle.vx_vector.specs.Words.{destination_words};
+ghost use Rattle.vx_vstate.specs.Registers.{place_of, with_word, word_at, words_of_all};
+ghost use Rattle.vx_vstate.specs.State.{finished, setting_of};
+ghost use Rattle.vx_vstate.specs.Views.{view_of};
+
+use crate::executed::{reads_soundly, scalar_of, word_of};
+use crate::run::{Run, is_telling, run_by};
+use std::alloc::{AllocError, Global};
+use vx_decode::Instr;
+use vx_rows::Family;
+use vx_vector::{other_words_stay, words_are_made};
+use vx_vstate::{Setting, VState};
+
+/// As many words as all registers have at the most.
+const MOST_WORDS: usize = 1024;
+
+/// Does instructions of vector arithmetic. It has room for all the words that one makes, so that no word is read after another
+/// was written; what is in that room means nothing between instructions.
+#[derive(Debug, Drop)]
+pub struct Calculator {
+    made: Vec<u64>,
+    ghost room: { vec_len made ≡ 1024 },
+}
+
+impl Calculator {
+    /// Takes all the memory that it ever needs.
+    pub fn new(alloc: Global) -> Result<Calculator, AllocError> {
+        Ok(Calculator {
+            made: vec![in alloc; 0; MOST_WORDS]?,
+        })
+    }
+
+    /// Does an instruction of this family, legal under this setting, which is that of the state: the words of its destination
+    /// are those that it makes of the registers as they were, vxsat is joined, and vstart is 0. Answers the number that it puts
+    /// into an integer register, where it does.
+    pub fn execute(
+        &mut self,
+        i: &Instr,
+        family: Family,
+        at: &Setting,
+        v: &mut VState,
+    ) -> Option<u64>
+        requires setting { view_of at.now ≡ setting_of v.old at.now.scalar }
+        requires class { class_of i.now.op ≡ VectorArithmetic family }
+        requires executable { IsExecutable i.now (view_of at.now) }
+        ensures told { told (reads i.now (view_of at.now) v.old.words) ≡ result }
+        ensures done { v.new ≡ finished (record v.old { words = words_after (reads i.now (view_of at.now) v.old.words) }) 0 (saturates (reads i.now (view_of at.now) v.old.words)) }
+    {
+        other_words_stay();
+        if is_telling(family) {
+            let number = scalar_of(i, at, &*v);
+            v.finish(0, false);
+            return Some(number);
+        }
+        write(i, family, at, v, &mut self.made);
+        None
+    }
+}
+
+/// Does an instruction that writes vector registers.
+#[inline(always)]
+fn write(i: &Instr, family: Family, at: &Setting, v: &mut VState, made: &mut [u64])
+    requires setting { view_of at.now ≡ setting_of v.old at.now.scalar }
+    requires class { class_of i.now.op ≡ VectorArithmetic family }
+    requires executable { IsExecutable i.now (view_of at.now) }
+    requires writes { is_telling family ≡ false }
+    requires room { length made.old ≡ 1024 }
+    ensures told { told (reads i.now (view_of at.now) v.old.words) ≡ None }
+    ensures done { v.new ≡ finished (record v.old { words = words_after (reads i.now (view_of at.now) v.old.words) }) 0 (saturates (reads i.now (view_of at.now) v.old.words)) }
+{
+    words_are_made();
+    other_words_stay();
+    reads_soundly(i, at, &*v);
+    let run = run_by(family, at);
+    let sat = make(i, at, &*v, run, made);
+    put(v, i.rd, run, made);
+    v.finish(0, sat);
+}
+
+/// Whether one of two holds.
+#[inline(always)]
+fn either(a: bool, b: bool) -> bool
+    ensures { result ≡ (a || b) }
+{
+    a || b
+}
+
+/// Makes the words of a run of an instruction's destination, and answers whether an active element of them saturated.
+#[inline(always)]
+fn make(i: &Instr, at: &Setting, v: &VState, run: Run, made: &mut [u64]) -> bool
+    requires same { v.now.vlen ≡ at.now.vlen }
+    requires executable { IsExecutable i.now (view_of at.now) }
+    requires within { (k : ℕ) → k < run.count → run.first + k < length (destination_words (reads i.now (view_of at.now) v.now.words)) }
+    requires small { (k : ℕ) → k < run.count → run.first + k < 1024 }
+    requires room { run.count ≤ length made.old }
+    ensures room { length made.new ≡ length made.old }
+    ensures made { (k : ℕ) → k < run.count → slice_index made.new k ≡ word_at at.now.vlen (words_after (reads i.now (view_of at.now) v.now.words)) i.now.rd (run.first + k) }
+    ensures sat { result ≡ some_below run.count (λ k. word_saturates (reads i.now (view_of at.now) v.now.words) (run.first + k)) }
+{
+    let mut sat = false;
+    for k in 0..run.count {
+        let word = word_of(i, at, v, run.first + k);
+        made[k as usize] = word.value;
+        sat = either(sat, word.sat);
+    }
+    sat
+}
+
+/// Puts words into a run of a group that begins at a register.
+#[inline(always)]
+fn put(v: &mut VState, register: u8, run: Run, words: &[u64])
+    requires within { (k : ℕ) → k < run.count → place_of v.old.vlen register (run.first + k) < words_of_all v.old.vlen }
+    requires small { (k : ℕ) → k < run.count → run.first + k < 1024 }
+    requires room { run.count ≤ length words.now }
+    ensures { v.new ≡ record v.old { words = with_words v.old.vlen v.old.words register run.first (slice_index words.now) run.count } }
+{
+    for k in 0..run.count {
+        put_group_word(v, register, run.first + k, words[k as usize]);
+    }
+}
+
+/// Sets word `w` of the group that begins at a register.
+#[inline(always)]
+fn put_group_word(v: &mut VState, register: u8, w: u32, value: u64)
+    requires { place_of v.old.vlen register w < words_of_all v.old.vlen }
+    ensures { v.new ≡ record v.old { words = with_word v.old.vlen v.old.words register w value } }
+{
+    let per_register = v.vlen() / 64;
+    v.put_word(register + (w / per_register) as u8, w % per_register, value);
+}
