@@ -1,10 +1,9 @@
 -- Labels that are 0 bytes away.
-use Rattle.std.proofs.Common.{◌≡◌, ℕ, ℤ, pos, Bool, true, false, not, cond, ◌&&◌, List, [], ◌∷◌, ◌++◌, drop, Option, Some, None, refl, sym, ap, ◌∙◌}
-use Rattle.vx_language.specs.Faults.{fault_at}
+use Rattle.std.proofs.Common.{◌≡◌, ℤ, pos, Bool, true, false, not, cond, ◌&&◌, List, [], ◌∷◌, ◌++◌, drop, Option, Some, None, refl}
 use Rattle.vx_language.specs.Forms.{Form}
 use Rattle.vx_language.specs.Lexemes.{Piece, is_a}
 use Rattle.vx_language.specs.Places.{offset_fault, offset_faults, form_offset_faults, statement_offset_faults}
-use Rattle.vx_language.specs.Slots.{Slot, Rd, Rs1, Rs2, Immediate, SourceField, Offset, Label, ControlRegister, Datum, Text, Symbol, Mark, is_offset}
+use Rattle.vx_language.specs.Slots.{Slot, Rd, Rs1, Rs2, Vd, Vs1, Vs2, Masked, Carry, VtypeWord, Immediate, SourceField, Offset, Label, ControlRegister, Datum, Text, Symbol, Mark, is_offset}
 use Rattle.vx_language.specs.Statements.{statement_form}
 use Rattle.vx_language.specs.declared.fault.Fault.{Fault}
 use Rattle.vx_language.specs.declared.token.TokenKind.TheVariants as token
@@ -21,6 +20,12 @@ slot-reaches : (slot : Slot) (piece : Piece) → offset_fault nowhere slot piece
 slot-reaches Rd piece = refl
 slot-reaches Rs1 piece = refl
 slot-reaches Rs2 piece = refl
+slot-reaches Vd piece = refl
+slot-reaches Vs1 piece = refl
+slot-reaches Vs2 piece = refl
+slot-reaches Masked piece = refl
+slot-reaches Carry piece = refl
+slot-reaches (VtypeWord f) piece = refl
 slot-reaches (Immediate range) piece = refl
 slot-reaches (SourceField range) piece = refl
 slot-reaches (Offset width) piece = no-far (is_a token.Name piece) (is_offset width (pos 0)) _ (zero-fits width)

@@ -1,19 +1,23 @@
 -- Numbers in ranges, and names in tables.
-use Rattle.std.proofs.Common.{◌≡◌, ℕ, zero, suc, ◌+◌, ◌-◌, ◌*◌, ◌^◌, ◌<◌, ◌≤◌, length, get_or, arith, ltb, eqb, leb, Bool, true, false, cond, ◌&&◌, ℤ, pos, negsuc, neg_ℤ, List, [], ◌∷◌, Option, Some, None, bytes_eq, refl, sym, ap, ◌∙◌, ◌<ℤ◌, ◌≤ℤ◌}
+use Rattle.std.proofs.Common.{◌≡◌, ℕ, suc, ◌-◌, ◌^◌, ◌<◌, ◌≤◌, length, arith, Bool, true, false, cond, ℤ, pos, negsuc, neg_ℤ, List, [], ◌∷◌, Option, Some, None, bytes_eq, refl, ap, ◌<ℤ◌, ◌≤ℤ◌}
 use Rattle.std.specs.Prelude.{◌==◌, int_le, int_rem, unsigned_abs, unwrap_or, position, option_map, find, nat_le}
 use Rattle.std.specs.List.{list_all}
 use Rattle.std.specs.Option.{option_or}
-use Rattle.std.proofs.lemmas.Bool.{and_parts, false≢true, ltb-true, leb-true, eqb-true}
+use Rattle.std.proofs.lemmas.Bool.{and_parts, false≢true, leb-true, eqb-true}
 use Rattle.std.proofs.lemmas.Int.{ints}
 use Rattle.std.proofs.lemmas.Nat.{pow_pos}
 use Rattle.std.proofs.lemmas.List.Quantifiers.{position-Some}
+use Rattle.vx_base.specs.Numbers.{reduced}
 use Rattle.vx_decode.specs.Encoded.{IsSigned, IsSignedEven, IsUnsigned, IsNumber}
-use Rattle.vx_language.specs.Names.{register_number, numbered_names, control_number}
+use Rattle.vx_language.specs.Names.{register_number, numbered_names, vector_number, control_number}
 use Rattle.vx_language.specs.Slots.{Range, is_within, is_offset, unsigned_range}
 use Rattle.vx_rows.specs.declared.row.Number.{Number}
 use Rattle.vx_rows.specs.declared.row.Number.TheVariants.{Absent, Unsigned, Signed, FormatS, FormatB, FormatJ}
-use Rattle.vx_source.specs.Names.{register_names, NamedControl, named_controls}
-use Rattle.vx_code.specs.Right.{is_inside, is_inside_signed, covers, covers_offsets}
+use Rattle.vx_source.specs.Vtypes.{vtype_words}
+use Rattle.vx_source.specs.declared.vtype.VtypeField.{VtypeField}
+use Rattle.vx_source.specs.declared.vtype.VtypeField.TheVariants.{Sew, Lmul, Tail, Mask}
+use Rattle.vx_source.specs.Names.{register_names, vector_names, NamedControl, named_controls}
+use Rattle.vx_code.specs.Right.{is_inside, covers, covers_offsets}
 
 pub le-from : (a b : ℤ) → int_le a b ≡ true → a ≤ℤ b
 le-from a b e = grind (arith, ints)
@@ -96,6 +100,22 @@ register-below name =
     two-below (position (bytes_eq name) register_names) (position (bytes_eq name) numbered_names)
     (place-below (bytes_eq name) register_names _ refl (omega arith))
     (place-below (bytes_eq name) numbered_names _ refl (omega arith))
+
+pub vector-below : (name : List ℕ) → unwrap_or (vector_number name) 0 < 32
+unfolding vector_number vector_names
+vector-below name = place-below (bytes_eq name) vector_names _ refl (omega arith)
+
+-- fields of vtype
+pub low-below : (f : VtypeField) → (vtype_words f).low < 64
+unfolding vtype_words
+low-below Sew = omega arith
+low-below Lmul = omega arith
+low-below Tail = omega arith
+low-below Mask = omega arith
+
+pub reduced-below : (z : ℤ) → reduced 8 z < 2 ^ 8
+reduced-below (pos n) = omega arith
+reduced-below (negsuc n) = omega arith
 
 -- control registers
 by-found : (p : NamedControl → Bool) (c : NamedControl) (cs : List NamedControl) (b : Bool) → p c ≡ b → c.number ≤ 4095 → unwrap_or (option_map (λ (x : NamedControl). x.number) (find p cs)) 0 ≤ 4095 → unwrap_or (option_map (λ (x : NamedControl). x.number) (cond b (Some c) (find p cs))) 0 ≤ 4095

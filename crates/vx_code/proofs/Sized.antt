@@ -1,5 +1,5 @@
 -- How many bytes a statement puts doesn't depend on where labels stand.
-use Rattle.std.proofs.Common.{◌≡◌, ℕ, Bool, true, false, ◌&&◌, ℤ, pos, List, [], ◌∷◌, length, Option, Some, None, refl, sym, ap, ◌∙◌}
+use Rattle.std.proofs.Common.{◌≡◌, ℕ, true, ℤ, pos, List, length, Option, Some, None, refl, sym, ◌∙◌}
 use Rattle.std.specs.List.{list_all}
 use Rattle.std.specs.Prelude.{is_none, nat_lt}
 use Rattle.std.proofs.lemmas.Bool.{and_parts, false≢true}
@@ -11,7 +11,7 @@ use Rattle.vx_language.specs.Slots.{Slot}
 use Rattle.vx_language.specs.Statements.{chunk_of, chunk_size, code_instrs, aimed}
 use Rattle.vx_code.specs.Filling.{Fill, AreFilled}
 use Rattle.vx_code.specs.Right.{is_right_code, is_right_action, has_no_target}
-use Rattle.vx_code.proofs.Valid.{Kept, all-kept}
+use Rattle.vx_code.proofs.Valid.{all-kept}
 
 abbrev nowhere : Piece → ℤ
 nowhere label = pos 0

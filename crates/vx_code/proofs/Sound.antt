@@ -1,5 +1,5 @@
 -- A statement without a fault has a form, whose slots take its tokens.
-use Rattle.std.proofs.Common.{◌≡◌, ℕ, Bool, true, false, cond, ◌&&◌, List, [], ◌∷◌, ◌++◌, map, filter, drop, Option, Some, None, IfSome, refl, sym, ap, ◌∙◌, subst}
+use Rattle.std.proofs.Common.{◌≡◌, ℕ, Bool, true, false, cond, List, [], ◌∷◌, ◌++◌, map, drop, Option, IfSome, inl, inr, ◌⊎◌, refl, subst}
 use Rattle.std.specs.Prelude.{find}
 use Rattle.vx_language.specs.Faults.{fault_at}
 use Rattle.vx_language.specs.Forms.{Form}
@@ -12,7 +12,7 @@ use Rattle.vx_language.specs.declared.token.TokenKind.TheVariants as token
 use Rattle.vx_code.specs.Filling.{Fill}
 use Rattle.vx_code.specs.Right.{is_right}
 use Rattle.vx_code.proofs.Nothing.{no-parts}
-use Rattle.vx_code.proofs.Tabled.{Apart, forms-apart}
+use Rattle.vx_code.proofs.Tabled.{Apart, Agree, are_apart, apart-taken, forms-apart}
 
 -- the tokens are those of these slots
 abbrev pub Matches : List (List ℕ) → List Slot → List Piece → Type 0
@@ -48,13 +48,45 @@ IsForm names operands found = IfSome found (λ (f : Form). Fill names f.slots op
 found-one : (names : List (List ℕ)) (operands : List Piece) (f : Form) (more : List Form) → Matches names f.slots operands → is_right f ≡ true → IsForm names operands (find (λ (g : Form). take_all g.slots operands) (f ∷ more))
 found-one names operands f more matches right = rw matches.0 (matches.1, right)
 
-two-ways : (names : List (List ℕ)) (end : ℕ) (operands : List Piece) (f g : Form) → is_right f ≡ true → is_right g ≡ true → f.slots ≡ [] → operand_faults names end (f.slots ∷ g.slots ∷ []) operands ≡ [] → IsForm names operands (find (λ (h : Form). take_all h.slots operands) (f ∷ g ∷ []))
-unfolding operand_faults take_all
-two-ways names end [] f g right other none e = found-one names [] f (g ∷ []) (rw none (refl, tt)) right
-two-ways names end (piece ∷ pieces) f g right other none e =
-    let second : operand_faults names end (g.slots ∷ []) (piece ∷ pieces) ≡ [] = rw none at e in
-    let skipped : take_all f.slots (piece ∷ pieces) ≡ false = rw none refl in
-    rw skipped (found-one names (piece ∷ pieces) g [] (one-way names end g.slots (piece ∷ pieces) second) other)
+-- two ways that go together and then apart: what is taken by the first, or else by the second, is so without a fault
+Taken : List (List ℕ) → List Slot → List Slot → List Piece → Type 0
+Taken names first second pieces = Matches names first pieces ⊎ ((take_all first pieces ≡ false) × Matches names second pieces)
+
+first-taken : (names : List (List ℕ)) (slot : Slot) (first second : List Slot) (piece : Piece) (rest : List Piece) → takes slot piece ≡ true → token_faults names slot piece ≡ [] → Taken names first second rest → Taken names (slot ∷ first) (slot ∷ second) (piece ∷ rest)
+unfolding Taken take_all
+first-taken names slot first second piece rest h none (inl m) = inl (rw h m.0, (h, none, m.1))
+first-taken names slot first second piece rest h none (inr m) = inr (rw h m.0, (rw h m.1.0, (h, none, m.1.1)))
+
+together : (names : List (List ℕ)) (end : ℕ) (slot other : Slot) (first second : List Slot) (piece : Piece) (rest : List Piece) (b c : Bool) → takes slot piece ≡ b → takes other piece ≡ c → (are_apart slot other ≡ true) ⊎ ((slot ≡ other) × Agree first second) → (Agree first second → operand_faults names end (first ∷ second ∷ []) rest ≡ [] → Taken names first second rest) → judged names end piece rest (cond b ((slot ∷ first) ∷ cond c ((other ∷ second) ∷ []) []) (cond c ((other ∷ second) ∷ []) [])) ≡ [] → Taken names (slot ∷ first) (other ∷ second) (piece ∷ rest)
+unfolding judged Taken take_all
+together names end slot other first second piece rest true true h k (inl apart) behind e = absurd (apart-taken slot other piece apart h k)
+together names end slot other first second piece rest true true h k (inr same) behind e =
+    let parts = no-parts (token_faults names slot piece) (operand_faults names end (first ∷ second ∷ []) rest) e in
+    subst (λ (s : Slot). Taken names (slot ∷ first) (s ∷ second) (piece ∷ rest)) same.0 (first-taken names slot first second piece rest h parts.0 (behind same.1 parts.1))
+together names end slot other first second piece rest true false h k agree behind e =
+    let parts = no-parts (token_faults names slot piece) (operand_faults names end (first ∷ []) rest) e in
+    let m = one-way names end first rest parts.1 in
+    inl (rw h m.0, (h, parts.0, m.1))
+together names end slot other first second piece rest false true h k agree behind e =
+    let parts = no-parts (token_faults names other piece) (operand_faults names end (second ∷ []) rest) e in
+    let m = one-way names end second rest parts.1 in
+    inr (rw h refl, (rw k m.0, (k, parts.0, m.1)))
+together names end slot other first second piece rest false false h k agree behind e = cc
+
+two : (names : List (List ℕ)) (end : ℕ) (first second : List Slot) (pieces : List Piece) → Agree first second → operand_faults names end (first ∷ second ∷ []) pieces ≡ [] → Taken names first second pieces
+unfolding operand_faults judged Taken take_all
+two names end [] second [] agree e = inl (refl, tt)
+two names end [] second (piece ∷ rest) agree e = inr (refl, one-way names end second (piece ∷ rest) e)
+two names end (slot ∷ first) [] [] agree e = inr (refl, (refl, tt))
+two names end (slot ∷ first) [] (piece ∷ rest) agree e = inl (one-way names end (slot ∷ first) (piece ∷ rest) e)
+two names end (slot ∷ first) (other ∷ second) [] agree e = cc
+two names end (slot ∷ first) (other ∷ second) (piece ∷ rest) agree e =
+    together names end slot other first second piece rest (takes slot piece) (takes other piece) refl refl agree (λ a k. two names end first second rest a k) e
+
+of-two : (names : List (List ℕ)) (operands : List Piece) (f g : Form) → is_right f ≡ true → is_right g ≡ true → Taken names f.slots g.slots operands → IsForm names operands (find (λ (h : Form). take_all h.slots operands) (f ∷ g ∷ []))
+unfolding Taken
+of-two names operands f g right other (inl m) = found-one names operands f (g ∷ []) m right
+of-two names operands f g right other (inr m) = rw m.0 (found-one names operands g [] m.1 other)
 
 faults-of : List (List ℕ) → ℕ → Piece → List Piece → List Form → List Fault
 faults-of names end name operands forms =
@@ -67,7 +99,7 @@ by-forms : (names : List (List ℕ)) (end : ℕ) (name : Piece) (operands : List
 unfolding faults-of
 by-forms names end name operands [] apart e = tt
 by-forms names end name operands (f ∷ []) apart e = found-one names operands f [] (one-way names end f.slots operands e) apart
-by-forms names end name operands (f ∷ g ∷ []) apart e = two-ways names end operands f g apart.0 apart.1 apart.2 e
+by-forms names end name operands (f ∷ g ∷ []) apart e = of-two names operands f g apart.0 apart.1 (two names end f.slots g.slots operands apart.2 e)
 by-forms names end name operands (f ∷ g ∷ h ∷ more) apart e = absurd apart
 
 named : (names : List (List ℕ)) (end : ℕ) (name : Piece) (operands : List Piece) → named_faults names end name operands ≡ [] → IsForm names operands (form_for name operands)

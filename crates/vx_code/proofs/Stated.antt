@@ -1,7 +1,7 @@
 -- The form of a statement.
-use Rattle.std.proofs.Common.{◌≡◌, ℕ, length, drop, ℤ, pos, List, [], ◌∷◌, ◌++◌, Option, Some, None, IfSome, option_map, true, refl, sym, ap, ◌∙◌, subst}
+use Rattle.std.proofs.Common.{◌≡◌, ℕ, length, drop, ℤ, pos, List, [], ◌∷◌, Option, Some, None, IfSome, option_map, true, refl, sym, ap, ◌∙◌, subst}
 use Rattle.std.proofs.lemmas.List.{nil_from_length}
-use Rattle.vx_language.specs.Faults.{first_of, earlier}
+use Rattle.vx_language.specs.Faults.{first_of}
 use Rattle.vx_language.specs.Forms as language
 use Rattle.vx_language.specs.Lexemes.{Piece}
 use Rattle.vx_language.specs.Places.{offset_faults, form_offset_faults, statement_offset_faults}

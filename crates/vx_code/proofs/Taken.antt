@@ -1,18 +1,16 @@
 -- Numbers in slots.
-use Rattle.std.proofs.Common.{◌≡◌, ℕ, zero, suc, ◌^◌, ◌<◌, ◌≤◌, arith, Bool, true, false, cond, ◌&&◌, ◌||◌, ℤ, pos, negsuc, neg_ℤ, ◌≤ℤ◌, ◌<ℤ◌, List, [], ◌∷◌, ◌++◌, map, flat_map, append-nil, Option, Some, None, refl, sym, ap, ◌∙◌, subst}
-use Rattle.std.specs.List.{list_all}
+use Rattle.std.proofs.Common.{◌≡◌, ℕ, ◌≤◌, Bool, true, false, cond, ◌&&◌, ◌||◌, ℤ, pos, List, [], ◌∷◌, map, flat_map, append-nil, Option, Some, None, refl, sym, ap, ◌∙◌}
 use Rattle.std.specs.Prelude.{unsigned_abs}
-use Rattle.std.proofs.lemmas.Bool.{false≢true, and_parts, or_cases}
-use Rattle.std.proofs.lemmas.Int.{ints}
+use Rattle.std.proofs.lemmas.Bool.{false≢true, and_parts}
 use Rattle.vx_language.specs.Lexemes.{Piece, is_a, is_kind, token_kind}
 use Rattle.vx_language.specs.Lines.{is_the_mark}
 use Rattle.vx_language.specs.Numerals.{number_value}
-use Rattle.vx_language.specs.Slots.{Slot, Rd, Rs1, Rs2, Immediate, SourceField, Offset, Label, ControlRegister, Datum, Text, Symbol, Mark, Range, takes, token_faults, is_within, is_offset, signed_range, unsigned_range}
+use Rattle.vx_language.specs.Slots.{Slot, Rd, Rs1, Rs2, Vd, Vs1, Vs2, Masked, Carry, VtypeWord, Immediate, SourceField, Offset, Label, ControlRegister, Datum, Text, Symbol, Mark, Range, takes, token_faults, is_within, is_offset, signed_range, unsigned_range}
 use Rattle.vx_language.specs.Statements.{numbers_in, count_in}
 use Rattle.vx_language.specs.declared.token.TokenKind.{TokenKind}
 use Rattle.vx_language.specs.declared.token.TokenKind.TheVariants as token
 use Rattle.vx_code.specs.Filling.{Fill, AreFilled, slot_range}
-use Rattle.vx_code.specs.Right.{is_count, is_inside}
+use Rattle.vx_code.specs.Right.{is_count}
 use Rattle.vx_code.proofs.Nothing.{no-fault}
 use Rattle.vx_code.proofs.Ranges.{between, abs-below}
 
@@ -47,6 +45,12 @@ unfolding takes token_faults is_offset is_the_mark
 in-slot names Rd piece takes none h = absurd (not-and _ _ (no-name piece h) takes)
 in-slot names Rs1 piece takes none h = absurd (not-and _ _ (no-name piece h) takes)
 in-slot names Rs2 piece takes none h = absurd (not-and _ _ (no-name piece h) takes)
+in-slot names Vd piece takes none h = absurd (not-and _ _ (no-name piece h) takes)
+in-slot names Vs1 piece takes none h = absurd (not-and _ _ (no-name piece h) takes)
+in-slot names Vs2 piece takes none h = absurd (not-and _ _ (no-name piece h) takes)
+in-slot names Masked piece takes none h = absurd (not-and _ _ (no-name piece h) takes)
+in-slot names Carry piece takes none h = absurd (not-and _ _ (no-name piece h) takes)
+in-slot names (VtypeWord f) piece takes none h = absurd (not-and _ _ (no-name piece h) takes)
 in-slot names (Immediate range) piece takes none h = no-fault (is_within range (number_value piece.text)) _ none
 in-slot names (SourceField range) piece takes none h = no-fault (is_within range (number_value piece.text)) _ none
 in-slot names (Offset width) piece takes none h =
@@ -120,6 +124,12 @@ unfolding takes
 count-number greatest Rd piece c fills = absurd (false≢true c)
 count-number greatest Rs1 piece c fills = absurd (false≢true c)
 count-number greatest Rs2 piece c fills = absurd (false≢true c)
+count-number greatest Vd piece c fills = absurd (false≢true c)
+count-number greatest Vs1 piece c fills = absurd (false≢true c)
+count-number greatest Vs2 piece c fills = absurd (false≢true c)
+count-number greatest Masked piece c fills = absurd (false≢true c)
+count-number greatest Carry piece c fills = absurd (false≢true c)
+count-number greatest (VtypeWord f) piece c fills = absurd (false≢true c)
 count-number greatest (Immediate range) piece c fills = absurd (false≢true c)
 count-number greatest (SourceField range) piece c fills = absurd (false≢true c)
 count-number greatest (Offset width) piece c fills = absurd (false≢true c)
@@ -134,6 +144,12 @@ within-count : (greatest : ℕ) (slot : Slot) (value : ℤ) → is_count greates
 within-count greatest Rd value c w = absurd (false≢true c)
 within-count greatest Rs1 value c w = absurd (false≢true c)
 within-count greatest Rs2 value c w = absurd (false≢true c)
+within-count greatest Vd value c w = absurd (false≢true c)
+within-count greatest Vs1 value c w = absurd (false≢true c)
+within-count greatest Vs2 value c w = absurd (false≢true c)
+within-count greatest Masked value c w = absurd (false≢true c)
+within-count greatest Carry value c w = absurd (false≢true c)
+within-count greatest (VtypeWord f) value c w = absurd (false≢true c)
 within-count greatest (Immediate range) value c w = absurd (false≢true c)
 within-count greatest (SourceField range) value c w = absurd (false≢true c)
 within-count greatest (Offset width) value c w = absurd (false≢true c)

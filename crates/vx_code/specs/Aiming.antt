@@ -1,5 +1,5 @@
 -- How far labels are, as the assembler knows it. This project's own.
-use Rattle.std.specs.Prelude.{ℕ, ℤ, pos, ◌-ℤ◌, option_map, unwrap_or}
+use Rattle.std.specs.Prelude.{ℤ, pos, ◌-ℤ◌, option_map, unwrap_or}
 use Rattle.vx_language.specs.Lexemes.{Piece}
 use Rattle.vx_language.specs.Places.{address_of}
 use Rattle.vx_statement.specs.Labels.{place_of, place_in}

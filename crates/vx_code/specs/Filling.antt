@@ -33,6 +33,7 @@ seen aim code = record {
   rs1 = code.instr.rs1;
   rs2 = code.instr.rs2;
   imm = code.instr.imm;
+  vm = code.instr.vm;
   target = option_map aim code.target;
 }
 

@@ -25,7 +25,7 @@ instr_with i filled = record {
   rs1 = filled.rs1;
   rs2 = filled.rs2;
   imm = unwrap_or filled.target filled.imm;
-  vm = i.vm;
+  vm = filled.vm;
   nf = i.nf;
 }
 

@@ -1,5 +1,6 @@
-ghost use Rattle.std.specs.Prelude.{◌≡◌, ℕ, List, [], ◌∷◌, ◌^◌, ◌≤ℤ◌, ◌<ℤ◌, true, Some, None, ℤ, pos, neg_ℤ, unsigned_abs, IfSome, if◌then◌else◌};
-ghost use Rattle.vx_language.specs.Code.{Code, Expansion, filled, filled_all, register_of, control_of};
+ghost use Rattle.std.specs.Prelude.{◌≡◌, ℕ, List, [], ◌∷◌, ◌^◌, ◌≤ℤ◌, ◌<ℤ◌, ◌+ℤ◌, true, Some, None, ℤ, pos, neg_ℤ, unsigned_abs, IfSome, if◌then◌else◌};
+ghost use Rattle.vx_base.specs.Numbers.{reduced};
+ghost use Rattle.vx_language.specs.Code.{Code, Expansion, filled, filled_all, register_of, vector_of, vtype_part, control_of};
 ghost use Rattle.vx_language.specs.Lexemes.{Piece, is_a};
 ghost use Rattle.vx_language.specs.Numerals.{number_value};
 ghost use Rattle.vx_language.specs.declared.token.TokenKind.TheVariants as kind;
@@ -13,7 +14,10 @@ ghost use Rattle.vx_code.specs.Filling.{AreFilled, seen, slot_range};
 use crate::aim::Aim;
 use vx_decode::Instr;
 use vx_language::TokenKind;
-use vx_statement::{Lexeme, Range, Reach, Slot, Way, control_number, register_number};
+use vx_source::VtypeField;
+use vx_statement::{
+    Lexeme, Range, Reach, Slot, Way, control_number, register_number, vector_number, vtype_number,
+};
 
 /// The numbers of 12 bits.
 const CONTROL_NUMBERS: Range = Range {
@@ -32,6 +36,8 @@ pub struct Filled {
     pub rs2: u8,
     /// The number, where there is one.
     pub imm: i128,
+    /// The instruction isn't masked.
+    pub vm: bool,
     /// How far the label is, where there is one.
     pub target: Option<i128>,
 }
@@ -47,6 +53,12 @@ fn slot_range(slot: Slot) -> Range
         | Slot::Rd
         | Slot::Rs1
         | Slot::Rs2
+        | Slot::Vd
+        | Slot::Vs1
+        | Slot::Vs2
+        | Slot::Masked
+        | Slot::Carry
+        | Slot::VtypeWord(_)
         | Slot::Label
         | Slot::Text
         | Slot::Symbol
@@ -101,6 +113,7 @@ pub fn start_of(instr: Instr) -> Filled
         rs1: u64::from(instr.rs1),
         rs2: instr.rs2,
         imm: i128::from(instr.imm),
+        vm: instr.vm,
         target: None,
     }
 }
@@ -110,6 +123,29 @@ fn register(token: &Lexeme<'_>) -> u8
     ensures { result ≡ register_of (piece_of token.now) }
 {
     register_number(token.text).unwrap_or(0)
+}
+
+/// The number of the vector register of this name.
+fn vector(token: &Lexeme<'_>) -> u8
+    ensures { result ≡ vector_of (piece_of token.now) }
+{
+    vector_number(token.text).unwrap_or(0)
+}
+
+/// A number reduced to 8 bits.
+fn reduced_8(value: i128) -> u8
+    ensures { result ≡ reduced 8 value }
+{
+    value.rem_euclid(1 << 8) as u8
+}
+
+/// The 8 bits of vtype with the word of a field more.
+fn with_word(field: VtypeField, token: &Lexeme<'_>, vtype: i128) -> u8
+    ensures { result ≡ reduced 8 (vtype +ℤ pos (vtype_part field (piece_of token.now))) }
+{
+    let number = vtype_number(field, token.text).unwrap_or(0);
+    let part = (number << field.low()) % 256;
+    reduced_8(vtype).wrapping_add(part as u8)
 }
 
 /// The number of a control register, of its name or its number.
@@ -160,6 +196,26 @@ fn fill(slot: Slot, token: &Lexeme<'_>, aim: &Aim<'_, '_>, before: Filled) -> Fi
         },
         Slot::Rs2 => Filled {
             rs2: register(token),
+            ..before
+        },
+        Slot::Vd => Filled {
+            rd: vector(token),
+            ..before
+        },
+        Slot::Vs1 => Filled {
+            rs1: u64::from(vector(token)),
+            ..before
+        },
+        Slot::Vs2 => Filled {
+            rs2: vector(token),
+            ..before
+        },
+        Slot::Masked | Slot::Carry => Filled {
+            vm: false,
+            ..before
+        },
+        Slot::VtypeWord(field) => Filled {
+            imm: i128::from(with_word(field, token, before.imm)),
             ..before
         },
         Slot::Immediate(_) => Filled {

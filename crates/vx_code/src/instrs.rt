@@ -92,7 +92,7 @@ fn instr_with(instr: Instr, filled: Filled) -> Instr
         rs1: filled.rs1 as u8,
         rs2: filled.rs2,
         imm: filled.target.unwrap_or(filled.imm) as i64,
-        vm: instr.vm,
+        vm: filled.vm,
         nf: instr.nf,
     }
 }

@@ -33,6 +33,12 @@ fn slot_fault(slot: Slot, token: &Lexeme<'_>, aim: &Aim<'_, '_>) -> Option<Fault
         Slot::Rd
         | Slot::Rs1
         | Slot::Rs2
+        | Slot::Vd
+        | Slot::Vs1
+        | Slot::Vs2
+        | Slot::Masked
+        | Slot::Carry
+        | Slot::VtypeWord(_)
         | Slot::Immediate(_)
         | Slot::SourceField(_)
         | Slot::Label

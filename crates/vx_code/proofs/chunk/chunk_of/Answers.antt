@@ -1,4 +1,3 @@
-use Rattle.std.proofs.Common.{◌∙◌}
 use Rattle.vx_code.proofs.chunk.chunk_of.Goals as goal
 
 pub count_of-requires-clause-counts : goal.count_of-requires-clause-counts

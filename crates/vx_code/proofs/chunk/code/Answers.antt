@@ -1,5 +1,5 @@
-use Rattle.std.proofs.Common.{◌≡◌, ℕ, List, [], ◌++◌, rules, sym, ap, ◌∙◌, refl, subst}
-use Rattle.vx_language.specs.Code.{filled_all, instr_bytes, expanded}
+use Rattle.std.proofs.Common.{◌≡◌, ℕ, List, [], ◌++◌, rules, sym, ap, ◌∙◌, subst}
+use Rattle.vx_language.specs.Code.{instr_bytes, expanded}
 use Rattle.vx_statement.specs.Lexemes.{pieces_of}
 use Rattle.vx_statement.specs.Ways.{commas_in, way_slots, expansion_of}
 use Rattle.vx_code.specs.Aiming.{aim_of}

@@ -1,4 +1,4 @@
-use Rattle.std.proofs.Common.{◌≡◌, ◌*◌, ◌++◌, ℤ, ℕ, List, sym, ap, ◌∙◌, append-nil, rules, SFits}
+use Rattle.std.proofs.Common.{◌*◌, ◌++◌, ℤ, ℕ, List, sym, ap, ◌∙◌, append-nil, rules, SFits}
 use Rattle.std.specs.Int.{w128}
 use Rattle.std.proofs.lemmas.Int.{to_z-of_z}
 use Rattle.vx_base.specs.Numbers.{reduced, little_endian}

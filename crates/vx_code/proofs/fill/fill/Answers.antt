@@ -1,6 +1,4 @@
-use Rattle.std.proofs.Common.{ap, sym, ◌∙◌}
 use Rattle.vx_statement.specs.Lexemes.{piece_of}
-use Rattle.vx_statement.specs.Ranges.{range_of}
 use Rattle.vx_code.proofs.Taken.{immediate-number, source-number}
 use Rattle.vx_code.proofs.fill.fill.Goals as goal
 

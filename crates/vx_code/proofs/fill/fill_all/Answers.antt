@@ -1,4 +1,3 @@
-use Rattle.std.proofs.Common.{◌∙◌}
 use Rattle.vx_code.specs.Aiming.{aim_of}
 use Rattle.vx_code.proofs.Filling.{slot-filled, rest-filled, not-refused, going-begun, going-on, going-over}
 use Rattle.vx_code.proofs.fill.fill_all.Goals as goal

@@ -1,7 +1,5 @@
-use Rattle.std.proofs.Common.{◌≡◌, drop}
-use Rattle.vx_language.specs.Code.{Code, filled_all}
-use Rattle.vx_statement.specs.Lexemes.{pieces_of}
-use Rattle.vx_statement.specs.Ways.{commas_in, way_slots}
+use Rattle.std.proofs.Common.{◌≡◌}
+use Rattle.vx_language.specs.Code.{Code}
 use Rattle.vx_code.specs.Aiming.{aim_of}
 use Rattle.vx_code.specs.Filling.{seen}
 use Rattle.vx_code.proofs.Filling.{FillRest, Going}

@@ -1,4 +1,4 @@
-use Rattle.std.proofs.Common.{◌≡◌, true, ap, ◌∙◌}
+use Rattle.std.proofs.Common.{ap, ◌∙◌}
 use Rattle.vx_language.specs.Numerals.{number_value}
 use Rattle.vx_language.specs.Slots.{Range, is_within}
 use Rattle.vx_statement.specs.Lexemes.{piece_of}

@@ -1,4 +1,3 @@
-use Rattle.std.proofs.Common.{◌∙◌}
 use Rattle.vx_code.specs.Putting.{instr_with}
 use Rattle.vx_code.proofs.Words.{alone-loaded}
 use Rattle.vx_code.proofs.instrs.push_code.Goals as goal

@@ -1,4 +1,4 @@
-use Rattle.std.proofs.Common.{◌≡◌, ℤ, pos, neg_ℤ, ◌&&◌, true, sym, ap, ◌∙◌, rules, SFits, w64}
+use Rattle.std.proofs.Common.{◌≡◌, ℤ, pos, neg_ℤ, ◌&&◌, true, sym, ap, ◌∙◌, rules}
 use Rattle.std.specs.Prelude.{int_le}
 use Rattle.std.specs.Int.{w128}
 use Rattle.std.proofs.lemmas.Int.{to_z-of_z}

@@ -1,4 +1,3 @@
-use Rattle.std.proofs.Common.{◌∙◌}
 use Rattle.vx_code.specs.Aiming.{aim_of}
 use Rattle.vx_code.proofs.Filling.{rest-filled, not-refused, offsets-on, offsets-over}
 use Rattle.vx_code.proofs.reach.offsets_fault.Goals as goal

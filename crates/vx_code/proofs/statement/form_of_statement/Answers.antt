@@ -1,4 +1,3 @@
-use Rattle.std.proofs.Common.{◌≡◌, [], ◌∷◌}
 use Rattle.vx_code.proofs.Stated.{no-statement, stated, not-stated}
 use Rattle.vx_code.proofs.statement.form_of_statement.Goals as goal
 

@@ -1,12 +1,10 @@
-use Rattle.std.proofs.Common.{◌≡◌, [], ℤ, pos, length, rules, ◌∙◌, ap}
+use Rattle.std.proofs.Common.{◌≡◌, [], pos, length, rules, ◌∙◌, ap}
 use Rattle.vx_language.specs.Lexemes.{Piece}
 use Rattle.vx_language.specs.Places.{offset_of}
-use Rattle.vx_language.specs.Statements.{Plain, chunk_of}
+use Rattle.vx_language.specs.Statements.{Plain}
 use Rattle.vx_statement.specs.Labels.{place_of}
 use Rattle.vx_statement.specs.Lexemes.{pieces_of}
-use Rattle.vx_statement.specs.Ways.{action_of}
 use Rattle.vx_code.specs.Aiming.{aim_of}
-use Rattle.vx_code.specs.Putting.{slots_for}
 use Rattle.vx_code.proofs.Stated.{none-put, none-sized, sound-by, chunk-by, size-by}
 use Rattle.vx_code.proofs.statement.put_of.Goals as goal
 
