@@ -1,6 +1,8 @@
 -- A label more.
-use Rattle.std.proofs.Common.{◌≡◌, ℕ, Bool, true, false, not, ◌||◌, List, [], ◌∷◌, ◌++◌, map, append_assoc, Option, Some, None, refl, sym, ap, ◌∙◌, bytes_eq, subst}
+use Rattle.std.proofs.Common.{◌≡◌, ℕ, Bool, true, false, not, cond, ◌||◌, List, [], ◌∷◌, ◌++◌, map, append_assoc, Option, Some, None, refl, sym, ap, ◌∙◌, bytes_eq, subst}
 use Rattle.std.specs.List.{list_any}
+use Rattle.std.specs.Option.{option_or}
+use Rattle.std.specs.Prelude.{find, option_map}
 use Rattle.std.proofs.lemmas.Bool.{false≢true}
 use Rattle.std.proofs.lemmas.Slice.Eq.{bytes_eq-Decides}
 use Rattle.vx_language.specs.Assembly.{twice_faults}
@@ -9,8 +11,9 @@ use Rattle.vx_language.specs.Lexemes.{Piece}
 use Rattle.vx_language.specs.declared.fault.Fault.{Fault}
 use Rattle.vx_language.specs.declared.fault.FaultKind.TheVariants.{Twice}
 use Rattle.vx_statement.specs.Knowing.{Know}
-use Rattle.vx_statement.specs.Labels.{Label, has_name}
-use Rattle.vx_asm.specs.Defining.{again, Defines, DefineAll, named_with}
+use Rattle.vx_language.specs.Places.{Place}
+use Rattle.vx_statement.specs.Labels.{Label, has_name, place_in}
+use Rattle.vx_asm.specs.Defining.{again, Defines, DefineAll, named_with, PutsAt, names_one}
 use Rattle.vx_statement.proofs.Firsts.{first-twice, first_of-append, first-none}
 
 or-swapped : (a b : Bool) → (a || (b || false)) ≡ (b || a)
@@ -51,13 +54,13 @@ is-old : (b : Bool) → false ≡ not b → b ≡ true
 is-old true e = refl
 is-old false e = absurd (false≢true e)
 
-pub defined-new : (label : Piece) (names : List (List ℕ)) (old new : List Label) (address : ℕ) → true ≡ not (has_name label.text old) → new ≡ old ++ record { name = label.text; address = address } ∷ [] → Know old names → Defines label names new None
+pub defined-new : (label : Piece) (names : List (List ℕ)) (old new : List Label) (place : Place) → true ≡ not (has_name label.text old) → new ≡ old ++ record { name = label.text; place = place } ∷ [] → Know old names → Defines label names new None
 unfolding first_of
-defined-new label names old new address added labels known =
+defined-new label names old new place added labels known =
     let absent = sym (known.same label.text) ∙ is-new (has_name label.text old) added in
     record {
       judged = rw absent refl;
-      known = rw labels (know-new old names (record { name = label.text; address = address }) known);
+      known = rw labels (know-new old names (record { name = label.text; place = place }) known);
     }
 
 pub defined-again : (label : Piece) (names : List (List ℕ)) (old new : List Label) (fault : Fault) → false ≡ not (has_name label.text old) → new ≡ old → fault ≡ fault_at Twice label → Know old names → Defines label names new (Some fault)
@@ -153,3 +156,61 @@ pub know-all : (labels : List Label) (own : List Piece) → Know labels (named_w
 know-all labels own known = record {
   same = λ name. known.same name ∙ named-any name [] own ∙ or-none (list_any (bytes_eq name) (map (λ (label : Piece). label.text) own));
 }
+
+-- places
+
+-- where the label of a name stands, once these labels are put at a place
+abbrev pub placed_with : List ℕ → List Label → List Piece → Place → Option Place
+placed_with name labels own place = option_or (place_in name labels) (cond (names_one own name) (Some place) None)
+
+or-nothing : {X : Type 0} (o : Option X) → option_or o None ≡ o
+or-nothing None = refl
+or-nothing (Some x) = refl
+
+or-either : {X : Type 0} (o : Option X) (a b : Bool) (x : X) → option_or (option_or o (cond a (Some x) None)) (cond b (Some x) None) ≡ option_or o (cond (a || b) (Some x) None)
+or-either None true b x = refl
+or-either None false b x = refl
+or-either (Some y) a b x = refl
+
+one-place : (b : Bool) (l : Label) → option_map (λ (x : Label). x.place) (cond b (Some l) None) ≡ cond b (Some l.place) None
+one-place true l = refl
+one-place false l = refl
+
+place-more : (b c : Bool) (l x : Label) (o : Option Label) (rest : Option Label) → option_map (λ (y : Label). y.place) rest ≡ option_or (option_map (λ (y : Label). y.place) o) (cond c (Some l.place) None) → option_map (λ (y : Label). y.place) (cond b (Some x) rest) ≡ option_or (option_map (λ (y : Label). y.place) (cond b (Some x) o)) (cond c (Some l.place) None)
+place-more true c l x o rest e = refl
+place-more false c l x o rest e = e
+
+place-behind : (name : List ℕ) (old : List Label) (l : Label) → place_in name (old ++ l ∷ []) ≡ option_or (place_in name old) (cond (bytes_eq name l.name) (Some l.place) None)
+place-behind name [] l = one-place (bytes_eq name l.name) l
+place-behind name (x ∷ old) l = place-more (bytes_eq name x.name) (bytes_eq name l.name) l x _ _ (place-behind name old l)
+
+pub put-new : (old new : List Label) (l : Label) → new ≡ old ++ l ∷ [] → PutsAt old new (λ (n : List ℕ). bytes_eq n l.name) l.place
+put-new old new l e = λ name. ap (place_in name) e ∙ place-behind name old l
+
+there-more : (b h : Bool) (x : Label) (o : Option Label) (p : Option Place) → (b || h) ≡ true → (h ≡ true → option_or (option_map (λ (y : Label). y.place) o) p ≡ option_map (λ (y : Label). y.place) o) → option_or (option_map (λ (y : Label). y.place) (cond b (Some x) o)) p ≡ option_map (λ (y : Label). y.place) (cond b (Some x) o)
+there-more true h x o p e k = refl
+there-more false h x o p e k = k e
+
+there-is : (name : List ℕ) (labels : List Label) (p : Option Place) → has_name name labels ≡ true → option_or (place_in name labels) p ≡ place_in name labels
+there-is name [] p e = absurd (false≢true e)
+there-is name (x ∷ labels) p e = there-more (bytes_eq name x.name) (has_name name labels) x _ p e (λ h. there-is name labels p h)
+
+again-is : (name own : List ℕ) (labels : List Label) (place : Place) (b : Bool) → bytes_eq name own ≡ b → has_name own labels ≡ true → place_in name labels ≡ option_or (place_in name labels) (cond b (Some place) None)
+again-is name own labels place false e h = sym (or-nothing (place_in name labels))
+again-is name own labels place true e h =
+    let same : name ≡ own = (bytes_eq-Decides name own).0 e in
+    sym (there-is name labels (Some place) (ap (λ (n : List ℕ). has_name n labels) same ∙ h))
+
+pub put-again : (old new : List Label) (own : List ℕ) (place : Place) → false ≡ not (has_name own old) → new ≡ old → PutsAt old new (λ (n : List ℕ). bytes_eq n own) place
+put-again old new own place added e = λ name. ap (place_in name) e ∙ again-is name own old place (bytes_eq name own) refl (is-old (has_name own old) added)
+
+pub put-more : (name : List ℕ) (rest before : List Piece) (labels new : List Label) (place : Place) (whole : Option Place) (label : Piece) → before ≡ label ∷ rest → place_in name new ≡ option_or (place_in name labels) (cond (bytes_eq name label.text) (Some place) None) → placed_with name labels before place ≡ whole → placed_with name new rest place ≡ whole
+put-more name rest before labels new place whole label cut put was =
+    ap (λ (o : Option Place). option_or o (cond (names_one rest name) (Some place) None)) put
+    ∙ or-either (place_in name labels) (bytes_eq name label.text) (names_one rest name) place
+    ∙ ap (λ (l : List Piece). placed_with name labels l place) (sym cut)
+    ∙ was
+
+pub put-over : (name : List ℕ) (before : List Piece) (labels : List Label) (place : Place) (whole : Option Place) → before ≡ [] → placed_with name labels before place ≡ whole → place_in name labels ≡ whole
+put-over name before labels place whole none was =
+    sym (or-nothing (place_in name labels)) ∙ ap (λ (l : List Piece). placed_with name labels l place) (sym none) ∙ was

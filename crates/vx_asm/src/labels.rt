@@ -8,7 +8,7 @@ use crate::defining::define_all;
 use crate::line::read_line;
 use std::alloc::{AllocError, Global};
 use vx_language::Fault;
-use vx_statement::{Labels, first};
+use vx_statement::{Labels, Place, first};
 
 /// The labels of a source, and the first fault of one that is defined again.
 #[derive(Drop)]
@@ -19,7 +19,7 @@ pub struct Defined<'a> {
     pub fault: Option<Fault>,
 }
 
-/// The labels of a source, in the order of their definitions, each with address 0, and the first fault of one that is defined
+/// The labels of a source, in the order of their definitions, each at the first place, and the first fault of one that is defined
 /// again. `Err` where memory is wanting.
 pub fn defined_labels<'a>(alloc: Global, source: &'a [u8]) -> Result<Defined<'a>, AllocError>
     ensures fault { IfOk result (λ defined. defined.fault ≡ first_of (twice_faults [] (labels_in (lines source.entry.now)))) }
@@ -30,7 +30,7 @@ pub fn defined_labels<'a>(alloc: Global, source: &'a [u8]) -> Result<Defined<'a>
     let mut next = Some(0usize);
     while let Some(from) = next {
         let line = read_line(alloc, source, from)?;
-        let fault = define_all(&mut labels, line.tokens.as_slice())?;
+        let fault = define_all(&mut labels, line.tokens.as_slice(), Place::first())?;
         found = first(found, fault);
         next = line.next;
     }

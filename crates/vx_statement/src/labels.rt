@@ -1,14 +1,15 @@
-ghost use Rattle.std.specs.Prelude.{◌≡◌, [], ◌∷◌, ◌++◌, not, IfOk, OnErr, if◌then◌else◌};
-ghost use Rattle.vx_statement.specs.Labels.{has_name, address_of};
+ghost use Rattle.std.specs.Prelude.{◌≡◌, [], ◌∷◌, ◌++◌, not, option_map, IfOk, if◌then◌else◌};
+ghost use Rattle.vx_statement.specs.Labels.{has_name, place_in, place_of};
 
+use crate::place::Place;
 use indexmap::IndexMap;
 use std::alloc::{AllocError, Global};
 use std::marker::Model;
 
-/// Labels in the order of their definitions, each once, with an address.
+/// Labels in the order of their definitions, each once, with its place.
 #[derive(Drop)]
 pub struct Labels<'a> {
-    places: IndexMap<&'a [u8], u64>,
+    places: IndexMap<&'a [u8], Place>,
 }
 
 impl<'a> Model for Labels<'a> {
@@ -37,23 +38,23 @@ impl<'a> Labels<'a> {
         self.places.contains_key(name)
     }
 
-    /// The address of the label of this name.
-    pub fn address(&self, name: &[u8]) -> Option<u64>
-        ensures { result ≡ address_of name.now self.now }
+    /// The place of the label of this name.
+    pub fn place(&self, name: &[u8]) -> Option<Place>
+        ensures { option_map place_of result ≡ place_in name.now self.now }
     {
         self.places.get(name).copied()
     }
 
     /// Adds a label behind the others, where none of its name is among them, and answers whether it did. `Err` where memory is
     /// wanting; the labels are then as before.
-    pub fn add(&mut self, name: &'a [u8], address: u64) -> Result<bool, AllocError>
+    pub fn add(&mut self, name: &'a [u8], place: Place) -> Result<bool, AllocError>
         ensures added { IfOk result (λ new. new ≡ not (has_name name.now self.old)) }
-        ensures labels { IfOk result (λ new. self.new ≡ (if new then self.old ++ record { name = name.now; address = address } ∷ [] else self.old)) }
+        ensures labels { IfOk result (λ new. self.new ≡ (if new then self.old ++ record { name = name.now; place = place_of place } ∷ [] else self.old)) }
     {
         if self.places.contains_key(name) {
             return Ok(false);
         }
-        self.places.insert(name, address)?;
+        self.places.insert(name, place)?;
         Ok(true)
     }
 }

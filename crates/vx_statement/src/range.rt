@@ -1,4 +1,4 @@
-ghost use Rattle.std.specs.Prelude.{◌≡◌, ◌==◌, pos, int_rem, unsigned_abs};
+ghost use Rattle.std.specs.Prelude.{◌≡◌, ◌==◌, ◌^◌, ◌≤ℤ◌, ◌<ℤ◌, true, pos, neg_ℤ, int_rem, unsigned_abs};
 ghost use Rattle.vx_language.specs.Numerals.{number_value};
 ghost use Rattle.vx_language.specs.Slots.{is_within, is_offset, signed_range};
 ghost use Rattle.vx_statement.specs.Ranges.{range_of, width_of};
@@ -30,6 +30,20 @@ impl Range {
         match number_of(text) {
             Some(value) => self.contains(value),
             None => false,
+        }
+    }
+
+    /// The number of a text, which is one of them.
+    #[tactic(auto, using(crate::proofs::Numbers::within_is_some))]
+    pub fn number(self, text: &[u8]) -> i128
+        requires { is_within (range_of self) (number_value text.now) ≡ true }
+        ensures value { result ≡ number_value text.now }
+        ensures low { neg_ℤ (pos (2 ^ 63)) ≤ℤ result }
+        ensures high { result <ℤ pos (2 ^ 64) }
+    {
+        match number_of(text) {
+            Some(value) => value,
+            None => 0,
         }
     }
 }

@@ -13,13 +13,13 @@ loop-next-init c = record {
 pub loop-next-preserved-in_ok-fault : goal.loop-next-preserved-in_ok-fault
 loop-next-preserved-in_ok-fault c = record {
   within = within-next (length c.args.source.now) c.in-Some.from c.in_ok-line.line.next c.in_ok-line.ensures.ahead;
-  amid = amid-step c.args.source.now c.in-Some.from c.in_ok-line.line c.as_slice.result.now _ _ _ c.loop-next.found _ _ c.in_ok-line.ensures.line c.as_slice.ensures (λ known knows. c.in_ok-fault.ensures known knows) c.first-found.ensures (rw c.in-Some.is at c.loop-next.invariant.amid);
+  amid = amid-step c.args.source.now c.in-Some.from c.in_ok-line.line c.as_slice.result.now _ _ _ c.loop-next.found _ _ c.in_ok-line.ensures.line c.as_slice.ensures (λ known knows. c.in_ok-fault.ensures.fault known knows) c.first-found.ensures (rw c.in-Some.is at c.loop-next.invariant.amid);
 }
 
 pub loop-next-preserved : goal.loop-next-preserved
 loop-next-preserved c = record {
   within = within-next (length c.args.source.now) c.in-Some.from c.in_ok-line.line.next c.in_ok-line.ensures.ahead;
-  amid = amid-step c.args.source.now c.in-Some.from c.in_ok-line.line c.as_slice.result.now _ _ _ c.loop-next.found _ _ c.in_ok-line.ensures.line c.as_slice.ensures (λ known knows. c.in_ok-fault.ensures known knows) c.first-found.ensures (rw c.in-Some.is at c.loop-next.invariant.amid);
+  amid = amid-step c.args.source.now c.in-Some.from c.in_ok-line.line c.as_slice.result.now _ _ _ c.loop-next.found _ _ c.in_ok-line.ensures.line c.as_slice.ensures (λ known knows. c.in_ok-fault.ensures.fault known knows) c.first-found.ensures (rw c.in-Some.is at c.loop-next.invariant.amid);
 }
 
 pub returns-clause-fault : goal.returns-clause-fault

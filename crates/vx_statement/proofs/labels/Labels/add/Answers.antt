@@ -17,5 +17,5 @@ pub returns-clause-labels : goal.returns-clause-labels
 returns-clause-labels c =
     let absent = sym (has-entries c.args.name.now c.self.inside.places.entries) ∙ sym c.contains_key.ensures ∙ c.if-contains_key.false in
     ap (map label_of) c.in_ok-insert.ensures.entries
-    ∙ insert-entries c.args.name c.args.address c.self.inside.places.entries absent
-    ∙ ap (λ (l : List Label). l ++ label_of (c.args.name, c.args.address) ∷ []) c.self.view_is
+    ∙ insert-entries c.args.name c.args.place c.self.inside.places.entries absent
+    ∙ ap (λ (l : List Label). l ++ label_of (c.args.name, c.args.place) ∷ []) c.self.view_is

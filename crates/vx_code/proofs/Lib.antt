@@ -1,0 +1,12 @@
+pub mod Nothing
+pub mod Bytes
+pub mod Filling
+pub mod Sound
+pub mod Tabled
+pub mod Ranges
+pub mod Valid
+pub mod Stated
+pub mod Taken
+pub mod Words
+pub mod Sized
+pub mod Nowhere

@@ -1,0 +1,7 @@
+use Rattle.std.proofs.Common.{sym, ◌∙◌}
+use Rattle.vx_statement.specs.Lexemes.{piece_of}
+use Rattle.vx_code.proofs.Taken.{control-is-number}
+use Rattle.vx_code.proofs.fill.control.Goals as goal
+
+pub some_number-requires-clause-number : goal.some_number-requires-clause-number
+some_number-requires-clause-number c = control-is-number (piece_of c.args.token.now) (sym c.is_a.ensures ∙ c.if-is_a.false) c.requires.filled

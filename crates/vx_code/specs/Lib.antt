@@ -1,0 +1,4 @@
+pub mod Aiming
+pub mod Filling
+pub mod Putting
+pub mod Right
