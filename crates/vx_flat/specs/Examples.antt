@@ -1,4 +1,4 @@
--- Small states and where they lead, on which the definitions are computed. VLEN is 128, and the registers from v8 on hold 1 to 8
+-- Small states and where they lead, on which the definitions are computed. VLEN is 128; the registers from v8 on hold 1 to 8
 -- where nothing else is said. This project's own; the values are worked out by hand.
 use Rattle.std.specs.Prelude.{◌≡◌, ℕ, ◌^◌, ◌-◌, true, false, List, [], ◌∷◌, ◌++◌, map, pos, replicate}
 use Rattle.vx_decode.specs.declared.instr.Instr.{Instr}

@@ -94,8 +94,8 @@ is_fault_only_first Strided = false
 is_fault_only_first Unordered = false
 is_fault_only_first Ordered = false
 
--- at an access of element k that fails: the elements below are done, and the instruction faults with vstart k; a load that
--- faults at its first element alone, and isn't there, completes with vl k
+-- at an access of element k that fails: the elements below are done, and the instruction faults with vstart k; a
+-- fault-only-first load whose k is above 0 completes with vl k
 abbrev pub fails_at : Transfer → Flat → (k cause address : ℕ) → Outcome
 fails_at t s k cause address =
     if is_fault_only_first t.movement.addressing && nat_lt 0 k then Next (completed (trimmed k (below_done t k s)))
