@@ -1,5 +1,5 @@
 -- Each step keeps what is true of every state of a run, and the boot makes it so.
-use Rattle.std.proofs.Common.{◌≡◌, ◌⊎◌, ℕ, zero, suc, ◌+◌, ◌-◌, ◌*◌, ◌/◌, ◌%◌, ◌^◌, ◌<◌, ◌≤◌, Bool, true, false, not, ◌&&◌, ◌||◌, IsTrue, nat_eq, ltb, List, [], ◌∷◌, length, replicate, if◌then◌else◌, refl, sym, ap, ◌∙◌, subst, ⊎_elim, arith}
+use Rattle.std.proofs.Common.{◌≡◌, ℕ, zero, suc, ◌*◌, ◌/◌, ◌%◌, ◌<◌, ◌≤◌, Bool, true, false, ◌&&◌, ◌||◌, nat_eq, ltb, List, [], ◌∷◌, length, if◌then◌else◌, refl, sym, ap, ◌∙◌, subst, ⊎_elim, arith}
 use Rattle.std.specs.List.{All}
 use Rattle.std.specs.Option.{option_map_or}
 use Rattle.std.specs.Prelude.{Option, Some, None, option_map, option_and_then, slice_index, filter, is_none}
@@ -64,7 +64,7 @@ use Rattle.vx_flat.proofs.Between.{between_all}
 use Rattle.vx_flat.proofs.Classes.{does}
 use Rattle.vx_flat.proofs.Done.{done-parts, done-permits, failure-is-one}
 use Rattle.vx_flat.proofs.Puts.{permits-bytes}
-use Rattle.vx_flat.proofs.Kept.{CountLaws, Aligned, next-aligned, jump-aligned, branch-aligned, IsConfiguration, configured-is}
+use Rattle.vx_flat.proofs.Kept.{CountLaws, Aligned, next-aligned, jump-aligned, branch-aligned, configured-is}
 
 -- ---- what is kept
 

@@ -1,19 +1,15 @@
 -- What is true of every state of a run: it is so at the boot, and each step keeps it.
-use Rattle.std.proofs.Common.{◌≡◌, ◌⊎◌, ℕ, zero, suc, ◌+◌, ◌-◌, ◌*◌, ◌/◌, ◌%◌, ◌^◌, ◌<◌, ◌≤◌, Bool, true, false, not, ◌&&◌, ◌||◌, IsTrue, nat_eq, ltb, List, [], ◌∷◌, length, min, if◌then◌else◌, refl, sym, ap, ◌∙◌, subst, ⊎_elim, arith}
-use Rattle.std.specs.List.{All}
-use Rattle.std.specs.Prelude.{Option, Some, None, option_map, option_and_then, slice_index}
-use Rattle.std.proofs.lemmas.Bool.{true≢false, false≢true, or_parts, or_right, or_cases, and_parts, not-false, eqb-true, ne_eqb, ltb-true}
-use Rattle.vx_base.specs.Options.{is_register_length}
+use Rattle.std.proofs.Common.{◌≡◌, ℕ, ◌*◌, ◌/◌, ◌%◌, ◌^◌, ◌<◌, ◌≤◌, Bool, true, false, not, ◌&&◌, ◌||◌, IsTrue, nat_eq, ltb, List, length, if◌then◌else◌, refl, sym, ap, subst, arith}
+use Rattle.std.proofs.lemmas.Bool.{or_parts, or_right, not-false, eqb-true, ne_eqb, ltb-true}
 use Rattle.vx_bits.specs.Arithmetic.{sum_at}
 use Rattle.vx_vstate.specs.Configuration.{Configuration, configured, length_for, is_lost}
-use Rattle.vx_vstate.specs.Registers.{words_of_all, with_element, is_byte_width}
-use Rattle.vx_vstate.specs.State.{VectorState, IsVectorState, SettingView, configuration_of, with_setting}
+use Rattle.vx_vstate.specs.Registers.{with_element, is_byte_width}
 use Rattle.vx_vstate.specs.Vtype.{vill, sew, lmul_eighths, vlmax, is_accepted, is_same_ratio, is_vtype, most_elements}
 use Rattle.vx_vstate.specs.declared.avl.Avl.{Avl}
 use Rattle.vx_vstate.specs.declared.avl.Avl.TheVariants.{Value, Max, Keep}
 use Rattle.vx_vector.specs.Arithmetic.{words_after}
 use Rattle.vx_vector.specs.Reading.{Reading}
-use Rattle.vx_flat.specs.Scalar.{Work, work, effect, effect_of, next_pc, put, jumped, branched}
+use Rattle.vx_flat.specs.Scalar.{next_pc, branched}
 use Rattle.vx_flat.specs.declared.effect.Effect.{Effect}
 use Rattle.vx_flat.specs.declared.effect.Effect.TheVariants as effects
 use Rattle.vx_flat.proofs.Apart.{by_width}

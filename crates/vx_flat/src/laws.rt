@@ -63,6 +63,7 @@ pub fn runs_are_well_formed()
 /// vector load or store, begun again at element `k`, comes to what it would have come to.
 pub fn steps_may_be_split()
     ensures step { (s t : Flat) (k : ℕ) → IsWellFormed s → prefix_at k s ≡ Some t → step t ≡ step s }
+    ensures continued { (s t : Flat) (k : ℕ) → IsWellFormed s → prefix_at k s ≡ Some t → continued t ≡ continued s }
     ensures run { (hart : Hart) (image : Image) (n k : ℕ) (s t : Flat) → IsRunnable hart image → flat hart image n ≡ Some s → flat_within hart image n k ≡ Some t → step t ≡ step s }
     ensures load { (addressing : Addressing) (encoded : Eew) (i : Instr) (s t : Flat) (k : ℕ) → IsVectorState s.v → IsValid i → class_of i.op ≡ VectorLoad addressing encoded → is_illegal i (setting_at s i) ≡ false → prefix_of (transfer Loading addressing encoded s i) k s ≡ Some t → transferred (transfer Loading addressing encoded t i) t ≡ transferred (transfer Loading addressing encoded s i) s }
     ensures store { (addressing : Addressing) (encoded : Eew) (i : Instr) (s t : Flat) (k : ℕ) → prefix_of (transfer Storing addressing encoded s i) k s ≡ Some t → transferred (transfer Storing addressing encoded t i) t ≡ transferred (transfer Storing addressing encoded s i) s }

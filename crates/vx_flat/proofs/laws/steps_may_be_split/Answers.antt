@@ -15,10 +15,13 @@ laws c = record {
 }
 
 pub returns-clause-step : goal.returns-clause-step
-returns-clause-step c s t k = step-splits (laws c) s t k
+returns-clause-step c s t k w h = (step-splits (laws c) s t k w h).by_step
+
+pub returns-clause-continued : goal.returns-clause-continued
+returns-clause-continued c s t k w h = (step-splits (laws c) s t k w h).by_continued
 
 pub returns-clause-run : goal.returns-clause-run
-returns-clause-run c hart image n k s t r e h = step-splits (laws c) s t k (c.runs_are_well_formed.ensures.run hart image n s r e) (sym (ap (option_and_then (prefix_at k)) e) ∙ h)
+returns-clause-run c hart image n k s t r e h = (step-splits (laws c) s t k (c.runs_are_well_formed.ensures.run hart image n s r e) (sym (ap (option_and_then (prefix_at k)) e) ∙ h)).by_step
 
 pub returns-clause-load : goal.returns-clause-load
 returns-clause-load c a e i s t k v valid row legal = load-splits (laws c) a e s i k t v (record { valid = valid; row = row; legal = legal })
