@@ -1,6 +1,6 @@
 -- Accesses of a vector load or store, done: what they leave, and in what order.
-use Rattle.std.proofs.Common.{◌≡◌, ◌≢◌, ℕ, ◌+◌, ◌/◌, ◌%◌, ◌*◌, ◌^◌, ◌<◌, ◌≤◌, Bool, true, false, not, nat_eq, List, [], ◌∷◌, ◌++◌, if◌then◌else◌, refl, sym, ap, ◌∙◌, subst}
-use Rattle.std.specs.List.{All}
+use Rattle.std.proofs.Common.{◌≡◌, ◌≢◌, ℕ, ◌+◌, ◌/◌, ◌%◌, ◌*◌, ◌^◌, ◌<◌, ◌≤◌, Bool, true, false, not, nat_eq, List, [], ◌∷◌, ◌++◌, if◌then◌else◌, refl, sym, ap, ◌∙◌, subst, cond}
+use Rattle.std.specs.List.{All, filter}
 use Rattle.std.specs.Prelude.{Option, Some, None, is_none}
 use Rattle.std.proofs.lemmas.Bool.{false≢true, eqb-true}
 use Rattle.std.proofs.lemmas.List.Elements.{All-nil, All-cons, All-head, All-tail}
@@ -120,3 +120,13 @@ passes memory want address width h = by_tests (nat_eq (address % width) 0) (perm
 pub is-none : {A : Type 0} (o : Option A) → is_none o ≡ true → o ≡ None
 is-none None h = refl
 is-none (Some x) h = absurd (false≢true h)
+
+kept-all : (d : Direction) (memory : Memory) (a : Access) (l : List Access) → failure_of d memory a ≡ None → filter (λ (x : Access). is_none (failure_of d memory x)) (a ∷ l) ≡ a ∷ filter (λ (x : Access). is_none (failure_of d memory x)) l
+kept-all d memory a l h = ap (λ (c : Option ℕ). cond (is_none c) (a ∷ filter (λ (x : Access). is_none (failure_of d memory x)) l) (filter (λ (x : Access). is_none (failure_of d memory x)) l)) h
+
+-- where no access fails, all pass
+pub all-pass : (d : Direction) (memory : Memory) (l : List Access) → first_failure d memory l ≡ None → filter (λ (x : Access). is_none (failure_of d memory x)) l ≡ l
+all-pass d memory [] h = refl
+all-pass d memory (a ∷ l) h =
+    let parts = neither a (failure_of d memory a) (first_failure d memory l) h in
+    kept-all d memory a l parts.0 ∙ ap (λ xs. a ∷ xs) (all-pass d memory l parts.1)

@@ -5,6 +5,8 @@ pub mod Continues
 pub mod Done
 pub mod Enabled
 pub mod Grows
+pub mod Keeps
+pub mod Kept
 pub mod Puts
 pub mod Rules
 pub mod Splits

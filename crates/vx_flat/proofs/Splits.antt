@@ -1,8 +1,9 @@
 -- A step may be taken up within an instruction.
-use Rattle.std.proofs.Common.{◌≡◌, ℕ, ◌+◌, ◌*◌, ◌/◌, ◌<◌, ◌≤◌, Bool, true, false, ◌&&◌, nat_eq, leb, ltb, List, ◌++◌, length, if◌then◌else◌, refl, sym, ap, ◌∙◌, subst, inl, inr, arith}
-use Rattle.std.specs.List.{All}
+use Rattle.std.proofs.Common.{◌≡◌, ℕ, ◌+◌, ◌*◌, ◌/◌, ◌%◌, ◌<◌, ◌≤◌, Bool, true, false, not, ◌&&◌, nat_eq, leb, ltb, List, ◌++◌, length, if◌then◌else◌, refl, sym, ap, ◌∙◌, subst, inl, inr, arith}
+use Rattle.std.specs.List.{All, filter}
 use Rattle.std.specs.Prelude.{Option, Some, None, is_none}
 use Rattle.std.proofs.lemmas.Bool.{false≢true, and_parts, leb-true}
+use Rattle.std.proofs.lemmas.List.Elements.{filter-append}
 use Rattle.std.proofs.lemmas.Option.{none-some, same_Some}
 use Rattle.vx_image.specs.Pages.{Memory}
 use Rattle.vx_decode.specs.Decoded.{decoded}
@@ -22,16 +23,18 @@ use Rattle.vx_vstate.specs.Vtype.{vill, vlmax, most_elements}
 use Rattle.vx_vector.specs.Accesses.{Access, Movement, access_bits, access_bytes, fields_of, movement_count, registers_of_field, accesses_between, access_list}
 use Rattle.vx_vector.specs.Batches.{has_indices}
 use Rattle.vx_vector.specs.Movements.{IsLegalMovement, IsSoundMovement}
+use Rattle.vx_flat.specs.Checks.{misaligned, page_fault}
+use Rattle.vx_flat.specs.Continued.{good_done}
 use Rattle.vx_flat.specs.Outcome.{faulted}
 use Rattle.vx_flat.specs.Outcome.Outcome.{Next}
 use Rattle.vx_flat.specs.Prefix.{prefix_of}
 use Rattle.vx_flat.specs.State.{Flat, at_element, completed}
-use Rattle.vx_flat.specs.Transfers.{Direction, Transfer, Failure, transfer, transferred, transferred_by, accesses_done, first_failure, below_done, trimmed, is_fault_only_first}
+use Rattle.vx_flat.specs.Transfers.{Direction, Transfer, Failure, transfer, transferred, transferred_by, accesses_done, want_of, failure_of, first_failure, below_done, trimmed, is_fault_only_first}
 use Rattle.vx_flat.specs.Transfers.Direction.{Loading, Storing}
 use Rattle.vx_flat.specs.Vectors.{setting_at}
 use Rattle.vx_flat.proofs.Apart.{AreKeptApart, apart-from-mask, apart-from-index, by_width}
 use Rattle.vx_flat.proofs.Between.{IsReadAlike, between_all, count_alike, in-parts, all-in-parts, goes-on}
-use Rattle.vx_flat.proofs.Done.{with_parts, done-behind, done-at, done-parts, stores-words, done-permits, loads-leave, failures-alike, failures-behind, failure-is-one, is-none}
+use Rattle.vx_flat.proofs.Done.{with_parts, done-behind, done-at, done-parts, stores-words, done-permits, loads-leave, failures-alike, failures-behind, failure-is-one, all-pass, is-none}
 use Rattle.vx_flat.proofs.Rules.{SizeLaws, load-rules, behind-v0, kept-apart, Rules}
 
 -- what the crates below say of elements, groups and instructions
@@ -106,6 +109,24 @@ module _ (d : Direction) (a : Addressing) (e : Eew) (s : Flat) (i : Instr) (k : 
         ap (transferred_by onward there) failure-there
         ∙ by-failure (first_failure d s.memory rest) refl
         ∙ sym (ap (transferred_by t s) failure-here)
+
+    -- ---- past a failure
+
+    passing-alike : (l : List Access) → filter (λ (x : Access). is_none (failure_of d memory x)) l ≡ filter (λ (x : Access). is_none (failure_of d s.memory x)) l
+    passing-alike l = λ j. filter (λ (x : Access). is_none (if not (nat_eq (x.address % x.width) 0) then Some (misaligned (want_of d)) else if not (done-permits d first s x.address (want_of d) j) then Some (page_fault (want_of d)) else None)) l
+
+    passing : filter (λ (x : Access). is_none (failure_of d s.memory x)) (access_list m) ≡ first ++ filter (λ (x : Access). is_none (failure_of d s.memory x)) rest
+    passing =
+        ap (filter (λ (x : Access). is_none (failure_of d s.memory x))) (all-in-parts m k)
+        ∙ filter-append (λ (x : Access). is_none (failure_of d s.memory x)) first rest
+        ∙ ap (λ l. l ++ filter (λ (x : Access). is_none (failure_of d s.memory x)) rest) (all-pass d s.memory first good)
+
+    pub past-alike : good_done onward there ≡ good_done t s
+    past-alike =
+        ap completed
+        (states-alike 0 (filter (λ (x : Access). is_none (failure_of d memory x)) (access_list onward.movement)) (filter (λ (x : Access). is_none (failure_of d s.memory x)) (access_list m)) (filter (λ (x : Access). is_none (failure_of d s.memory x)) rest)
+        (passing-alike (access_list onward.movement) ∙ ap (filter (λ (x : Access). is_none (failure_of d s.memory x))) list-there)
+        passing)
 
 -- ---- what later elements read
 
@@ -191,6 +212,11 @@ module _ (a : Addressing) (e : Eew) (s : Flat) (i : Instr) (k : ℕ) (u : Flat) 
         index = λ h x low inside. ap (λ w. element s.v.vlen w i.rs2 (bits_of_eew e) x) (stores-words below s);
       }
 
+  pub store-past : prefix_of (transfer Storing a e s i) k s ≡ Some u → good_done (transfer Storing a e u i) u ≡ good_done (transfer Storing a e s i) s
+  store-past h =
+      let is = prefix-parts (transfer Storing a e s i) k s u h in
+      ap (λ x. good_done (transfer Storing a e x i) x) (from-there Storing h) ∙ past-alike Storing a e s i k is.start store-read is.good
+
   pub store-splits : prefix_of (transfer Storing a e s i) k s ≡ Some u → transferred (transfer Storing a e u i) u ≡ transferred (transfer Storing a e s i) s
   store-splits h =
       let is = prefix-parts (transfer Storing a e s i) k s u h in
@@ -217,3 +243,8 @@ module _ (L : Laws) (a : Addressing) (e : Eew) (s : Flat) (i : Instr) (k : ℕ) 
   load-splits r h =
       let is = prefix-parts (transfer Loading a e s i) k s u h in
       ap (λ x. transferred (transfer Loading a e x i) x) (from-there a e s i k u Loading h) ∙ transfers-alike Loading a e s i k is.start (load-read r) is.good
+
+  pub load-past : IsRow (VectorLoad a e) s i → prefix_of (transfer Loading a e s i) k s ≡ Some u → good_done (transfer Loading a e u i) u ≡ good_done (transfer Loading a e s i) s
+  load-past r h =
+      let is = prefix-parts (transfer Loading a e s i) k s u h in
+      ap (λ x. good_done (transfer Loading a e x i) x) (from-there a e s i k u Loading h) ∙ past-alike Loading a e s i k is.start (load-read r) is.good

@@ -1,5 +1,5 @@
 -- The step from a state within an instruction is the step from the state before it.
-use Rattle.std.proofs.Common.{◌≡◌, ℕ, ◌+◌, ◌/◌, ◌%◌, ◌^◌, ◌<◌, ◌≤◌, Bool, true, false, not, ◌&&◌, nat_eq, List, if◌then◌else◌, refl, sym, ap, ◌∙◌, arith}
+use Rattle.std.proofs.Common.{◌≡◌, ℕ, ◌+◌, ◌/◌, ◌%◌, ◌^◌, ◌<◌, ◌≤◌, Bool, true, false, not, ◌&&◌, nat_eq, List, if◌then◌else◌, refl, sym, ap, ◌∙◌, subst, arith, ltb}
 use Rattle.std.specs.List.{All}
 use Rattle.std.specs.Prelude.{Option, Some, None, option_and_then}
 use Rattle.std.proofs.lemmas.Bool.{false≢true, and_parts, not-true}
@@ -15,14 +15,17 @@ use Rattle.vx_rows.specs.declared.row.Class.{Class}
 use Rattle.vx_rows.specs.declared.row.Class.TheVariants.{VectorLoad, VectorStore}
 use Rattle.vx_rows.specs.declared.row.Eew.{Eew}
 use Rattle.vx_vstate.specs.Registers.{is_byte_width}
-use Rattle.vx_vector.specs.Accesses.{Access, Movement, access_bits, access_of, accesses_between}
+use Rattle.vx_vector.specs.Accesses.{Access, Movement, access_bits, access_of, access_list, accesses_between}
 use Rattle.vx_vector.specs.Movements.{IsSoundMovement}
+use Rattle.vx_flat.specs.Continued.{passed_as, passed_over, behind, continued}
 use Rattle.vx_flat.specs.Memory.{permits, number_at}
+use Rattle.vx_flat.specs.Outcome.{Outcome, faulted}
+use Rattle.vx_flat.specs.Outcome.Outcome.{Next, Exited, Faulted}
 use Rattle.vx_flat.specs.Prefix.{transfer_as, transfer_next, prefix_of, prefix_at}
 use Rattle.vx_flat.specs.Splits.{IsWellFormed}
-use Rattle.vx_flat.specs.State.{Flat}
+use Rattle.vx_flat.specs.State.{Flat, completed}
 use Rattle.vx_flat.specs.Step.{upcoming, meaning, is_legal, is_legal_as, is_executed, word_at_pc, performed, performed_as, step}
-use Rattle.vx_flat.specs.Transfers.{Transfer, transfer, failure_of, first_failure}
+use Rattle.vx_flat.specs.Transfers.{Transfer, Failure, transfer, transferred_by, failure_of, first_failure, below_done, trimmed, is_fault_only_first}
 use Rattle.vx_flat.specs.Transfers.Direction.{Loading, Storing}
 use Rattle.vx_flat.specs.Vectors.{setting_at}
 use Rattle.vx_flat.specs.declared.upcoming.Upcoming.{Upcoming}
@@ -32,7 +35,7 @@ use Rattle.vx_flat.proofs.Between.{between_all}
 use Rattle.vx_flat.proofs.Done.{loads-memory, done-permits, IsElsewhere, stores-leave, none-fails, passes}
 use Rattle.vx_flat.proofs.Puts.{other-page, permitted-below, word-stays}
 use Rattle.vx_flat.proofs.Rules.{load-legal-alike, store-legal-alike}
-use Rattle.vx_flat.proofs.Splits.{Laws, IsRow, prefix-parts, there, from-there, store-sound, load-splits, store-splits}
+use Rattle.vx_flat.proofs.Splits.{Laws, IsRow, prefix-parts, there, from-there, store-sound, load-splits, store-splits, load-past, store-past}
 
 -- ---- what comes next
 
@@ -85,6 +88,31 @@ performed-is s i c q = ap (λ c. performed_as c s i) q
 
 step-is : (s : Flat) (i : Instr) (c : Class) → class_of i.op ≡ c → upcoming s ≡ Instruction i → step s ≡ performed_as c s i
 step-is s i c q h = ap (performed s) h ∙ performed-is s i c q
+
+-- ---- past a failure
+
+abbrev NoExit : Outcome → Type 0
+NoExit (Next t) = Unit {0}
+NoExit (Exited code) = ⊥
+NoExit (Faulted fault t) = Unit {0}
+
+NoExit-if : (b : Bool) (x y : Outcome) → NoExit x → NoExit y → NoExit (if b then x else y)
+NoExit-if true x y p q = p
+NoExit-if false x y p q = q
+
+no-exit : (t : Transfer) (s : Flat) (o : Option Failure) → NoExit (transferred_by t s o)
+no-exit t s None = tt
+no-exit t s (Some f) =
+    let k = f.access.element in
+    NoExit-if (is_fault_only_first t.movement.addressing && ltb 0 k) (Next (completed (trimmed k (below_done t k s)))) (faulted (below_done t k s) f.cause f.access.address) tt tt
+
+behind-alike : (s u : Flat) (o : Outcome) → NoExit o → passed_over u (upcoming u) ≡ passed_over s (upcoming s) → behind u o ≡ behind s o
+behind-alike s u (Next t) n h = refl
+behind-alike s u (Exited code) n h = absurd n
+behind-alike s u (Faulted fault t) n h = h
+
+over-is : (s : Flat) (i : Instr) (c : Class) → class_of i.op ≡ c → upcoming s ≡ Instruction i → passed_over s (upcoming s) ≡ passed_as c s i
+over-is s i c q h = ap (passed_over s) h ∙ ap (λ c. passed_as c s i) q
 
 -- ---- where accesses of a store may lie
 
@@ -184,23 +212,43 @@ module _ (L : Laws) (a : Addressing) (e : Eew) (s : Flat) (i : Instr) (k : ℕ) 
       ∙ store-splits a e s i k u p
       ∙ sym (step-is s i (VectorStore a e) q h)
 
+  load-continued : class_of i.op ≡ VectorLoad a e → prefix_of (transfer Loading a e s i) k s ≡ Some u → continued u ≡ continued s
+  load-continued q p =
+      let comes : upcoming u ≡ Instruction i = ap upcoming (from-there a e s i k u Loading p) ∙ load-next q in
+      let same = load-step q p in
+      let over = over-is u i (VectorLoad a e) q comes ∙ load-past L a e s i k u w.vectors (load-row q) p ∙ sym (over-is s i (VectorLoad a e) q h) in
+      ap (behind u) same
+      ∙ behind-alike s u (step s) (subst NoExit (sym (step-is s i (VectorLoad a e) q h)) (no-exit (transfer Loading a e s i) s (first_failure Loading s.memory (access_list (transfer Loading a e s i).movement)))) over
+
+  store-continued : class_of i.op ≡ VectorStore a e → prefix_of (transfer Storing a e s i) k s ≡ Some u → continued u ≡ continued s
+  store-continued q p =
+      let comes : upcoming u ≡ Instruction i = ap upcoming (from-there a e s i k u Storing p) ∙ store-next q (prefix-parts (transfer Storing a e s i) k s u p).good in
+      let same = store-step q p in
+      let over = over-is u i (VectorStore a e) q comes ∙ store-past a e s i k u p ∙ sym (over-is s i (VectorStore a e) q h) in
+      ap (behind u) same
+      ∙ behind-alike s u (step s) (subst NoExit (sym (step-is s i (VectorStore a e) q h)) (no-exit (transfer Storing a e s i) s (first_failure Storing s.memory (access_list (transfer Storing a e s i).movement)))) over
+
 -- ---- any instruction
 
-step-of : (L : Laws) (s : Flat) (i : Instr) (k : ℕ) (u : Flat) → IsWellFormed s → upcoming s ≡ Instruction i → (c : Class) → class_of i.op ≡ c → option_and_then (λ (t : Transfer). prefix_of t k s) (transfer_as c s i) ≡ Some u → step u ≡ step s
-step-of L s i k u w h (VectorLoad a e) q p = load-step L a e s i k u w h q p
-step-of L s i k u w h (VectorStore a e) q p = store-step L a e s i k u w h q p
+pub record AreAlike (u s : Flat) : Type 0 where
+  pub by_step : step u ≡ step s
+  pub by_continued : continued u ≡ continued s
+
+step-of : (L : Laws) (s : Flat) (i : Instr) (k : ℕ) (u : Flat) → IsWellFormed s → upcoming s ≡ Instruction i → (c : Class) → class_of i.op ≡ c → option_and_then (λ (t : Transfer). prefix_of t k s) (transfer_as c s i) ≡ Some u → AreAlike u s
+step-of L s i k u w h (VectorLoad a e) q p = record { by_step = load-step L a e s i k u w h q p; by_continued = load-continued L a e s i k u w h q p }
+step-of L s i k u w h (VectorStore a e) q p = record { by_step = store-step L a e s i k u w h q p; by_continued = store-continued L a e s i k u w h q p }
 step-of L s i k u w h c q p = absurd (none-some u p)
 
-step-next : (L : Laws) (s : Flat) (k : ℕ) (u : Flat) → IsWellFormed s → (x : Upcoming) → upcoming s ≡ x → option_and_then (λ (t : Transfer). prefix_of t k s) (transfer_next s x) ≡ Some u → step u ≡ step s
+step-next : (L : Laws) (s : Flat) (k : ℕ) (u : Flat) → IsWellFormed s → (x : Upcoming) → upcoming s ≡ x → option_and_then (λ (t : Transfer). prefix_of t k s) (transfer_next s x) ≡ Some u → AreAlike u s
 step-next L s k u w Denied h p = absurd (none-some u p)
 step-next L s k u w (Illegal word) h p = absurd (none-some u p)
 step-next L s k u w (Instruction i) h p = step-of L s i k u w h (class_of i.op) refl p
 
-here-or-on : (b : Bool) (s u : Flat) (on : Option Flat) → (on ≡ Some u → step u ≡ step s) → (if b then Some s else on) ≡ Some u → step u ≡ step s
-here-or-on true s u on f h = ap step (sym (same_Some s u h))
+here-or-on : (b : Bool) (s u : Flat) (on : Option Flat) → (on ≡ Some u → AreAlike u s) → (if b then Some s else on) ≡ Some u → AreAlike u s
+here-or-on true s u on f h = let same = sym (same_Some s u h) in record { by_step = ap step same; by_continued = ap continued same }
 here-or-on false s u on f h = f h
 
-pub step-splits : Laws → (s u : Flat) (k : ℕ) → IsWellFormed s → prefix_at k s ≡ Some u → step u ≡ step s
+pub step-splits : Laws → (s u : Flat) (k : ℕ) → IsWellFormed s → prefix_at k s ≡ Some u → AreAlike u s
 step-splits L s u k w h =
     here-or-on (nat_eq k s.v.vstart) s u (option_and_then (λ (t : Transfer). prefix_of t k s) (transfer_next s (upcoming s)))
     (step-next L s k u w (upcoming s) refl) h
