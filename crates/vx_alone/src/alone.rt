@@ -1,13 +1,21 @@
-ghost use Rattle.std.specs.Prelude.{◌≡◌, ◌==◌, ◌<◌, ◌≤◌, ◌%◌, ◌^◌, ◌++◌, ◌&&◌, length, true, false, is_some, Some, None, IfOk, IsTrue};
+ghost use Rattle.std.specs.Prelude.{◌≡◌, ◌⊎◌, ◌==◌, ◌<◌, ◌≤◌, ◌%◌, ◌^◌, ◌++◌, ◌&&◌, length, not, true, false, is_some, Some, None, IfOk, IfSome, IsTrue};
 ghost use Rattle.vx_alone.specs.Asking.{asks, class_next, is_service, is_service_class};
+ghost use Rattle.vx_alone.specs.Transfers.{HasMoved, Moves, stopped};
 ghost use Rattle.vx_alone.specs.Turns.{turn_of};
 ghost use Rattle.vx_flat.specs.Process.{after, begun, stepped};
 ghost use Rattle.vx_alone.specs.Operands.{IsAligned};
 ghost use Rattle.vx_base.specs.Numbers.{signed};
 ghost use Rattle.vx_base.specs.Options.{is_register_length};
 ghost use Rattle.vx_decode.specs.Encoded.{IsValid};
+ghost use Rattle.vx_decode.specs.Legal.{is_illegal};
 ghost use Rattle.vx_flat.specs.Service.{service, answered, write};
-ghost use Rattle.vx_flat.specs.State.{following, register};
+ghost use Rattle.vx_flat.specs.State.{completed, following, register};
+ghost use Rattle.vx_flat.specs.Transfers.{is_fault_only_first, transfer, transferred};
+ghost use Rattle.vx_flat.specs.Transfers.Direction.{Loading, Storing};
+ghost use Rattle.vx_flat.specs.Vectors.{setting_at};
+ghost use Rattle.vx_rows.specs.Table.{class_of};
+ghost use Rattle.vx_rows.specs.declared.row.Class.TheVariants.{VectorLoad, VectorStore};
+ghost use Rattle.vx_vaddr.specs.Views.{movement_with};
 ghost use Rattle.vx_flat.specs.Outcome.{faulted};
 ghost use Rattle.vx_flat.specs.Outcome.Outcome.{Next, Exited};
 ghost use Rattle.vx_flat.specs.Step.{meaning, is_executed, is_legal_as, upcoming, performed, performed_as, affect, affected, load, load_from, store, store_at, ecall, exchange_at, control_by, configure};
@@ -15,20 +23,25 @@ ghost use Rattle.vx_scalar.specs.Operands.{NamesRegisters, is_access_width};
 
 use crate::arch::Arch;
 use crate::asking::asks;
+use crate::failures::Failed;
+use crate::kept::Kept;
 use crate::memory::Memory;
 use crate::operands::{change_in, control_number, operand_of, source_in, vtype_of};
 use crate::service::write;
+use crate::transfers::{is_fault_only_first, load_elements, store_elements};
 use crate::turn::Turn;
 use crate::vectors::{exchange, length_asked};
 use std::alloc::{AllocError, Global};
 use std::marker::Model;
 use vx_base::Fault;
-use vx_decode::{Instr, Known, KnownWords, decoded_is_valid};
+use vx_decode::{Instr, Known, KnownWords, decoded_is_valid, legal};
 use vx_flat::{Effect, End, Hart};
 use vx_image::Image;
-use vx_rows::Class;
+use vx_rows::{Addressing, Class, Eew};
 use vx_scalar::{Regs, access_width, loaded, scalar, scalar_address};
-use vx_vstate::VState;
+use vx_vaddr::AccessPattern;
+use vx_vector::legal_movements_are_sound;
+use vx_vstate::{Setting, VState};
 
 /// The flat machine: one process alone, an instruction at a time. It takes all its memory at boot.
 #[derive(Debug, Drop)]
@@ -38,6 +51,8 @@ pub struct Alone {
     vectors_enabled: bool,
     memory: Memory,
     words: KnownWords,
+    /// The vector registers as they were at the start of the last vector load.
+    kept: Kept,
     output: Vec<u8>,
     count: u64,
     over: Option<End>,
@@ -95,6 +110,7 @@ impl Alone {
             vectors_enabled: hart.vectors_enabled,
             memory: Memory::of(alloc, image)?,
             words: KnownWords::new(alloc)?,
+            kept: Kept::new(alloc)?,
             output: Vec::with_capacity(alloc, 1 << 20)?,
             count: 0,
             over: None,
@@ -217,6 +233,7 @@ impl Alone {
     fn execute(&mut self, class: Class, i: Instr) -> bool
         requires running { self.old.over ≡ None }
         requires valid { IsValid i }
+        requires class { class ≡ class_of i.op }
         ensures legal { result ≡ (is_executed self.old.state.vectors_enabled class && is_legal_as class self.old.state i) }
         ensures illegal { result ≡ false → self.new ≡ self.old }
         ensures waits { is_service_class class ≡ true → self.new ≡ self.old }
@@ -247,7 +264,8 @@ impl Alone {
             Class::Csr => self.control(i),
             Class::Set => self.configure(i),
             Class::VectorArithmetic(_) => false,
-            Class::VectorLoad(_, _) | Class::VectorStore(_, _) => false,
+            Class::VectorLoad(addressing, encoded) => self.load_vectors(addressing, encoded, i),
+            Class::VectorStore(addressing, encoded) => self.store_vectors(addressing, encoded, i),
         }
     }
 
@@ -290,6 +308,121 @@ impl Alone {
         self.arch.regs.write(i.rd, vl);
         self.complete();
         true
+    }
+
+    /// The accesses of a vector load or store and its setting, where vectors are enabled and it is legal.
+    fn movement(
+        &self,
+        addressing: Addressing,
+        encoded: Eew,
+        i: &Instr,
+    ) -> Option<(AccessPattern, Setting)>
+        requires valid { IsValid i.now }
+        requires registers { NamesRegisters i.now }
+        requires row { (class_of i.now.op ≡ VectorLoad addressing encoded) ⊎ (class_of i.now.op ≡ VectorStore addressing encoded) }
+        ensures legal { is_some result ≡ (self.now.state.vectors_enabled && not (is_illegal i.now (setting_at self.now.state i.now))) }
+        ensures moves { IfSome result (λ r. Moves (transfer Loading addressing encoded self.now.state i.now).movement r.0 r.1) }
+    {
+        if !self.vectors_enabled {
+            return None;
+        }
+        let base = self.arch.regs.read(i.rs1);
+        let stride = self.arch.regs.read(i.rs2);
+        let at = self.arch.v.setting(base);
+        if !legal(i, &at) {
+            return None;
+        }
+        legal_movements_are_sound();
+        let _length = self.arch.v.vlen();
+        let pattern = AccessPattern::new(addressing, encoded, i, &at, base, stride);
+        Some((pattern, at))
+    }
+
+    /// Does a vector load where that is legal, and answers whether it is; where it isn't, nothing changes.
+    fn load_vectors(&mut self, addressing: Addressing, encoded: Eew, i: Instr) -> bool
+        requires running { self.old.over ≡ None }
+        requires valid { IsValid i }
+        requires registers { NamesRegisters i }
+        requires row { class_of i.op ≡ VectorLoad addressing encoded }
+        ensures legal { result ≡ (self.old.state.vectors_enabled && not (is_illegal i (setting_at self.old.state i))) }
+        ensures illegal { result ≡ false → self.new ≡ self.old }
+        ensures performed { result ≡ true → self.new ≡ after self.old (transferred (transfer Loading addressing encoded self.old.state i) self.old.state) }
+    {
+        let Some((pattern, at)) = self.movement(addressing, encoded, &i) else {
+            return false;
+        };
+        let failed = self.load_by(&pattern, &at);
+        self.stop(addressing, failed);
+        true
+    }
+
+    /// Does a vector store where that is legal, and answers whether it is; where it isn't, nothing changes.
+    fn store_vectors(&mut self, addressing: Addressing, encoded: Eew, i: Instr) -> bool
+        requires running { self.old.over ≡ None }
+        requires valid { IsValid i }
+        requires registers { NamesRegisters i }
+        requires row { class_of i.op ≡ VectorStore addressing encoded }
+        ensures legal { result ≡ (self.old.state.vectors_enabled && not (is_illegal i (setting_at self.old.state i))) }
+        ensures illegal { result ≡ false → self.new ≡ self.old }
+        ensures performed { result ≡ true → self.new ≡ after self.old (transferred (transfer Storing addressing encoded self.old.state i) self.old.state) }
+    {
+        let Some((pattern, at)) = self.movement(addressing, encoded, &i) else {
+            return false;
+        };
+        let failed = self.store_by(&pattern, &at);
+        self.stop(addressing, failed);
+        true
+    }
+
+    /// Loads elements, up to one of which an access fails.
+    fn load_by(&mut self, pattern: &AccessPattern, at: &Setting) -> Option<Failed>
+        requires moves { Moves (movement_with pattern.now self.old.state.v.words) pattern.now at.now }
+        requires length { self.old.state.v.vlen ≡ at.now.vlen }
+        ensures moved { HasMoved Loading (movement_with pattern.now self.old.state.v.words) self.old self.new result }
+    {
+        self.kept.keep(&self.arch.v);
+        load_elements(pattern, at, &self.kept, &mut self.arch.v, &mut self.memory)
+    }
+
+    /// Stores elements, up to one of which an access fails.
+    fn store_by(&mut self, pattern: &AccessPattern, at: &Setting) -> Option<Failed>
+        requires moves { Moves (movement_with pattern.now self.old.state.v.words) pattern.now at.now }
+        requires length { self.old.state.v.vlen ≡ at.now.vlen }
+        ensures moved { HasMoved Storing (movement_with pattern.now self.old.state.v.words) self.old self.new result }
+    {
+        let arch = &self.arch;
+        store_elements(pattern, at, &arch.v, &mut self.memory)
+    }
+
+    /// Ends a vector load or store whose elements below its stop are done.
+    fn stop(&mut self, addressing: Addressing, failed: Option<Failed>)
+        requires running { self.old.over ≡ None }
+        requires within { IfSome failed (λ f. f.item.element < self.old.state.v.vlen) }
+        requires trims { IfSome failed (λ f. is_fault_only_first addressing ≡ true → f.item.element ≤ self.old.state.v.vl) }
+        ensures { self.new ≡ after self.old (stopped addressing self.old.state failed) }
+    {
+        match failed {
+            None => self.end(),
+            Some(f) => {
+                if is_fault_only_first(addressing) && f.item.element > 0 {
+                    self.arch.v.trim(f.item.element);
+                    self.end();
+                } else {
+                    self.arch.v.finish(f.item.element, false);
+                    self.fault(f.cause, f.item.address);
+                }
+            }
+        }
+    }
+
+    /// A vector instruction has completed.
+    fn end(&mut self)
+        requires running { self.old.over ≡ None }
+        ensures { self.new ≡ after self.old (Next (completed self.old.state)) }
+    {
+        let _vlen = self.arch.v.vlen();
+        self.arch.v.finish(0, false);
+        self.complete();
     }
 
     /// Does an instruction that touches no memory.
@@ -460,7 +593,7 @@ impl Alone {
 }
 
 /// Whether an address is a multiple of the width of an access.
-fn is_aligned(address: u64, width: u64) -> bool
+pub fn is_aligned(address: u64, width: u64) -> bool
     requires { IsTrue (is_access_width width) }
     ensures { result ≡ (address % width == 0) }
 {

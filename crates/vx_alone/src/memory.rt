@@ -86,6 +86,19 @@ impl Memory {
         Some(number_of_width(&self.bytes, index_of(place, address), width))
     }
 
+    /// Whether an access is let through at an address.
+    #[inline(always)]
+    pub fn permits(&mut self, address: u64, want: Want) -> bool
+        ensures memory { self.new ≡ self.old }
+        ensures permitted { result ≡ permits self.old address want }
+    {
+        let Some(place) = granting(&self.entries, self.data, address, want) else {
+            return false;
+        };
+        self.data = place;
+        true
+    }
+
     /// Stores the low bytes of a number from an address on, least first, where that is let through, and says whether it was.
     /// The address is a multiple of their count.
     pub fn store(&mut self, address: u64, width: u64, value: u64) -> bool

@@ -1,0 +1,10 @@
+-- The accesses so far have been done.
+use Rattle.std.proofs.Common.{length}
+use Rattle.vx_alone.proofs.Progress.{IsLoading}
+use Rattle.vx_alone.proofs.transfers.load_items.Given as goal
+
+abbrev pub invariant-loop-item : goal.invariant-loop-item
+invariant-loop-item l = IsLoading l.fn.memory l.memory l.fn.v l.v l.items l.rest
+
+abbrev pub decreases-loop-item : goal.decreases-loop-item
+decreases-loop-item l = length l.rest

@@ -1,0 +1,182 @@
+//! Vector loads and stores, from element to element.
+
+ghost use Rattle.std.specs.List.{Contains};
+ghost use Rattle.std.specs.Prelude.{◌≡◌, ◌<◌, [], ◌∷◌, IfSome, None, MatchOption, option_map};
+ghost use Rattle.vx_alone.specs.Transfers.{after_loading, after_stores, failure_from, stop_of};
+ghost use Rattle.vx_flat.specs.Transfers.{failure_of, first_failure, is_fault_only_first};
+ghost use Rattle.vx_flat.specs.Transfers.Direction.{Loading, Storing};
+ghost use Rattle.vx_vaddr.specs.Items.{access_of_item, accesses_of_items};
+ghost use Rattle.vx_vaddr.specs.Views.{movement_with};
+ghost use Rattle.vx_vector.specs.Accesses.{Access, access_list, accesses_between, movement_count};
+ghost use Rattle.vx_vector.specs.Movements.{IsPlacedAccess, IsSoundMovement};
+ghost use Rattle.vx_vstate.specs.Views.{view_of};
+
+use crate::failures::{Failed, first_failing};
+use crate::memory::Memory;
+use vx_base::Want;
+use vx_rows::Addressing;
+use vx_vaddr::{AccessList, AccessPattern, Item, put_loaded, stored_value};
+use vx_vector::legal_movements_are_sound;
+use vx_vstate::{Setting, VState, WordFile};
+
+/// Whether a load that fails behind its first element is cut off there, and doesn't fault (RISC-V "V" 1.0, section 7.7).
+#[inline(always)]
+pub fn is_fault_only_first(addressing: Addressing) -> bool
+    ensures { result ≡ is_fault_only_first addressing }
+{
+    match addressing {
+        Addressing::Unit => false,
+        Addressing::FaultOnlyFirst => true,
+        Addressing::Whole => false,
+        Addressing::MaskBits => false,
+        Addressing::Strided => false,
+        Addressing::Unordered => false,
+        Addressing::Ordered => false,
+    }
+}
+
+/// Does an access of a load, which doesn't fail.
+#[inline(always)]
+fn load_item(v: &mut VState, memory: &mut Memory, item: &Item)
+    requires placed { IsPlacedAccess v.old.vlen (access_of_item item.now) }
+    requires free { failure_of Loading memory.old (access_of_item item.now) ≡ None }
+    ensures memory { memory.new ≡ memory.old }
+    ensures loaded { v.new ≡ after_loading memory.old v.old (access_of_item item.now ∷ []) }
+{
+    let Some(number) = memory.load(item.address, u64::from(item.width)) else {
+        unreachable!()
+    };
+    put_loaded(v, item, number);
+}
+
+/// Does accesses of a load, which don't fail.
+#[inline(always)]
+fn load_items(v: &mut VState, memory: &mut Memory, items: &[Item])
+    requires placed { (a : Access) → Contains (accesses_of_items items.now) a → IsPlacedAccess v.old.vlen a }
+    requires free { first_failure Loading memory.old (accesses_of_items items.now) ≡ None }
+    ensures memory { memory.new ≡ memory.old }
+    ensures loaded { v.new ≡ after_loading memory.old v.old (accesses_of_items items.now) }
+{
+    let mut rest = items;
+    while let Some((item, later)) = rest.split_first() {
+        load_item(v, memory, item);
+        rest = later;
+    }
+}
+
+/// Does the accesses of an element of a load, unless one fails: the first that does is told, and none is done.
+#[inline(always)]
+fn load_element(v: &mut VState, memory: &mut Memory, items: &[Item]) -> Option<Failed>
+    requires placed { (a : Access) → Contains (accesses_of_items items.now) a → IsPlacedAccess v.old.vlen a }
+    ensures memory { memory.new ≡ memory.old }
+    ensures failure { option_map failure_from result ≡ first_failure Loading memory.old (accesses_of_items items.now) }
+    ensures loaded { MatchOption result (v.new ≡ after_loading memory.old v.old (accesses_of_items items.now)) (λ failed. v.new ≡ v.old) }
+{
+    if let Some(failed) = first_failing(memory, Want::Load, items) {
+        return Some(failed);
+    }
+    load_items(v, memory, items);
+    None
+}
+
+/// Loads the elements from vstart on, up to one of which an access fails: that is told, and nothing of its element is done.
+/// The indices and the mask are read from a file that stays as it is.
+pub fn load_elements<S: WordFile>(
+    pattern: &AccessPattern,
+    at: &Setting,
+    file: &S,
+    v: &mut VState,
+    memory: &mut Memory,
+) -> Option<Failed>
+    requires same { S.vlen file.now ≡ at.now.vlen }
+    requires length { v.old.vlen ≡ at.now.vlen }
+    requires setting { (movement_with pattern.now (S.words file.now)).at ≡ view_of at.now }
+    requires sound { IsSoundMovement (movement_with pattern.now (S.words file.now)) }
+    ensures memory { memory.new ≡ memory.old }
+    ensures failure { option_map failure_from result ≡ first_failure Loading memory.old (access_list (movement_with pattern.now (S.words file.now))) }
+    ensures among { IfSome result (λ failed. failed.item.element < movement_count (movement_with pattern.now (S.words file.now))) }
+    ensures loaded { v.new ≡ after_loading memory.old v.old (accesses_between (movement_with pattern.now (S.words file.now)) 0 (stop_of (movement_count (movement_with pattern.now (S.words file.now))) result)) }
+{
+    legal_movements_are_sound();
+    let count = pattern.count();
+    let mut list = AccessList::new();
+    let mut i = at.vstart.min(count);
+    while i < count {
+        pattern.fill(file, i, &mut list);
+        if let Some(failed) = load_element(v, memory, list.slice()) {
+            return Some(failed);
+        }
+        i += 1;
+    }
+    None
+}
+
+/// Does an access of a store, which doesn't fail.
+#[inline(always)]
+fn store_item(v: &VState, at: &Setting, memory: &mut Memory, item: &Item)
+    requires same { v.now.vlen ≡ at.now.vlen }
+    requires placed { IsPlacedAccess v.now.vlen (access_of_item item.now) }
+    requires free { failure_of Storing memory.old (access_of_item item.now) ≡ None }
+    ensures { memory.new ≡ after_stores v.now.vlen v.now.words memory.old (access_of_item item.now ∷ []) }
+{
+    let value = stored_value(v, at, item);
+    let _ = memory.store(item.address, u64::from(item.width), value);
+}
+
+/// Does accesses of a store, which don't fail.
+#[inline(always)]
+fn store_items(v: &VState, at: &Setting, memory: &mut Memory, items: &[Item])
+    requires same { v.now.vlen ≡ at.now.vlen }
+    requires placed { (a : Access) → Contains (accesses_of_items items.now) a → IsPlacedAccess v.now.vlen a }
+    requires free { first_failure Storing memory.old (accesses_of_items items.now) ≡ None }
+    ensures { memory.new ≡ after_stores v.now.vlen v.now.words memory.old (accesses_of_items items.now) }
+{
+    let mut rest = items;
+    while let Some((item, later)) = rest.split_first() {
+        store_item(v, at, memory, item);
+        rest = later;
+    }
+}
+
+/// Does the accesses of an element of a store, unless one fails: the first that does is told, and none is done.
+#[inline(always)]
+fn store_element(v: &VState, at: &Setting, memory: &mut Memory, items: &[Item]) -> Option<Failed>
+    requires same { v.now.vlen ≡ at.now.vlen }
+    requires placed { (a : Access) → Contains (accesses_of_items items.now) a → IsPlacedAccess v.now.vlen a }
+    ensures failure { option_map failure_from result ≡ first_failure Storing memory.old (accesses_of_items items.now) }
+    ensures stored { MatchOption result (memory.new ≡ after_stores v.now.vlen v.now.words memory.old (accesses_of_items items.now)) (λ failed. memory.new ≡ memory.old) }
+{
+    if let Some(failed) = first_failing(memory, Want::Store, items) {
+        return Some(failed);
+    }
+    store_items(v, at, memory, items);
+    None
+}
+
+/// Stores the elements from vstart on, up to one of which an access fails: that is told, and nothing of its element is done.
+pub fn store_elements(
+    pattern: &AccessPattern,
+    at: &Setting,
+    v: &VState,
+    memory: &mut Memory,
+) -> Option<Failed>
+    requires same { v.now.vlen ≡ at.now.vlen }
+    requires setting { (movement_with pattern.now v.now.words).at ≡ view_of at.now }
+    requires sound { IsSoundMovement (movement_with pattern.now v.now.words) }
+    ensures failure { option_map failure_from result ≡ first_failure Storing memory.old (access_list (movement_with pattern.now v.now.words)) }
+    ensures among { IfSome result (λ failed. failed.item.element < movement_count (movement_with pattern.now v.now.words)) }
+    ensures stored { memory.new ≡ after_stores v.now.vlen v.now.words memory.old (accesses_between (movement_with pattern.now v.now.words) 0 (stop_of (movement_count (movement_with pattern.now v.now.words)) result)) }
+{
+    legal_movements_are_sound();
+    let count = pattern.count();
+    let mut list = AccessList::new();
+    let mut i = at.vstart.min(count);
+    while i < count {
+        pattern.fill(v, i, &mut list);
+        if let Some(failed) = store_element(v, at, memory, list.slice()) {
+            return Some(failed);
+        }
+        i += 1;
+    }
+    None
+}
