@@ -1,3 +1,4 @@
+pub mod Calculated
 pub mod Accesses
 pub mod Calls
 pub mod Numbers

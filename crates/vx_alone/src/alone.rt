@@ -12,13 +12,14 @@ ghost use Rattle.vx_flat.specs.Service.{service, answered, write};
 ghost use Rattle.vx_flat.specs.State.{completed, following, register};
 ghost use Rattle.vx_flat.specs.Transfers.{is_fault_only_first, transfer, transferred};
 ghost use Rattle.vx_flat.specs.Transfers.Direction.{Loading, Storing};
-ghost use Rattle.vx_flat.specs.Vectors.{setting_at};
-ghost use Rattle.vx_rows.specs.Table.{class_of};
 ghost use Rattle.vx_rows.specs.declared.row.Class.TheVariants.{VectorLoad, VectorStore};
 ghost use Rattle.vx_vaddr.specs.Views.{movement_with};
 ghost use Rattle.vx_flat.specs.Outcome.{faulted};
 ghost use Rattle.vx_flat.specs.Outcome.Outcome.{Next, Exited};
-ghost use Rattle.vx_flat.specs.Step.{meaning, is_executed, is_legal_as, upcoming, performed, performed_as, affect, affected, load, load_from, store, store_at, ecall, exchange_at, control_by, configure};
+ghost use Rattle.vx_flat.specs.Step.{meaning, is_executed, is_legal_as, upcoming, performed, performed_as, affect, affected, load, load_from, store, store_at, ecall, exchange_at, control_by, configure, calculate_by};
+ghost use Rattle.vx_flat.specs.Vectors.{reading_at, setting_at};
+ghost use Rattle.vx_rows.specs.Table.{class_of};
+ghost use Rattle.vx_rows.specs.declared.row.Class.TheVariants as class;
 ghost use Rattle.vx_scalar.specs.Operands.{NamesRegisters, is_access_width};
 
 use crate::arch::Arch;
@@ -30,14 +31,15 @@ use crate::operands::{change_in, control_number, operand_of, source_in, vtype_of
 use crate::service::write;
 use crate::transfers::{is_fault_only_first, load_elements, store_elements};
 use crate::turn::Turn;
-use crate::vectors::{exchange, length_asked};
+use crate::vectors::{exchange, length_asked, put_told};
 use std::alloc::{AllocError, Global};
 use std::marker::Model;
 use vx_base::Fault;
 use vx_decode::{Instr, Known, KnownWords, decoded_is_valid, legal};
+use vx_exec::{Calculator, instructions_read};
 use vx_flat::{Effect, End, Hart};
 use vx_image::Image;
-use vx_rows::{Addressing, Class, Eew};
+use vx_rows::{Addressing, Class, Eew, Family};
 use vx_scalar::{Regs, access_width, loaded, scalar, scalar_address};
 use vx_vaddr::AccessPattern;
 use vx_vector::legal_movements_are_sound;
@@ -51,6 +53,8 @@ pub struct Alone {
     vectors_enabled: bool,
     memory: Memory,
     words: KnownWords,
+    /// Room for the words of a vector instruction.
+    calculator: Calculator,
     /// The vector registers as they were at the start of the last vector load.
     kept: Kept,
     output: Vec<u8>,
@@ -110,6 +114,7 @@ impl Alone {
             vectors_enabled: hart.vectors_enabled,
             memory: Memory::of(alloc, image)?,
             words: KnownWords::new(alloc)?,
+            calculator: Calculator::new(alloc)?,
             kept: Kept::new(alloc)?,
             output: Vec::with_capacity(alloc, 1 << 20)?,
             count: 0,
@@ -263,7 +268,7 @@ impl Alone {
             }
             Class::Csr => self.control(i),
             Class::Set => self.configure(i),
-            Class::VectorArithmetic(_) => false,
+            Class::VectorArithmetic(family) => self.calculate(i, family),
             Class::VectorLoad(addressing, encoded) => self.load_vectors(addressing, encoded, i),
             Class::VectorStore(addressing, encoded) => self.store_vectors(addressing, encoded, i),
         }
@@ -306,6 +311,31 @@ impl Alone {
         let avl = length_asked(source_in(i.op), i.rd, i.rs1, operand);
         let vl = self.arch.v.set_vl(avl, vtype_of(&i, &self.arch.regs));
         self.arch.regs.write(i.rd, vl);
+        self.complete();
+        true
+    }
+
+    /// Does vector arithmetic where vectors are enabled, and answers whether that is legal; where it isn't, nothing changes.
+    fn calculate(&mut self, i: Instr, family: Family) -> bool
+        requires running { self.old.over ≡ None }
+        requires valid { IsValid i }
+        requires registers { NamesRegisters i }
+        requires class { class_of i.op ≡ class.VectorArithmetic family }
+        ensures legal { result ≡ (self.old.state.vectors_enabled && not (is_illegal i (setting_at self.old.state i))) }
+        ensures illegal { result ≡ false → self.new ≡ self.old }
+        ensures performed { result ≡ true → self.new ≡ after self.old (calculate_by (reading_at self.old.state i) self.old.state i) }
+    {
+        instructions_read();
+        if !self.vectors_enabled {
+            return false;
+        }
+        let arch = &mut self.arch;
+        let at = arch.v.setting(arch.regs.read(i.rs1));
+        if !legal(&i, &at) {
+            return false;
+        }
+        let told = self.calculator.execute(&i, family, &at, &mut arch.v);
+        put_told(&mut arch.regs, i.rd, told);
         self.complete();
         true
     }

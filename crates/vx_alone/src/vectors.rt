@@ -1,10 +1,12 @@
-//! What instructions do to the vector state, but for those on vector registers.
+//! What instructions do to the vector state, and what vector arithmetic puts into an integer register.
 
-ghost use Rattle.std.specs.Prelude.{◌≡◌, ℕ, None, option_map};
+ghost use Rattle.std.specs.Prelude.{◌≡◌, ◌<◌, ℕ, None, option_map};
 ghost use Rattle.vx_flat.specs.Configure.{length_asked};
 ghost use Rattle.vx_flat.specs.Control.{changed, exchange, writes};
+ghost use Rattle.vx_flat.specs.Vectors.{with_told};
 
 use vx_flat::{Change, Source};
+use vx_scalar::Regs;
 use vx_vstate::{Avl, VState};
 
 /// What is written to a control register, of its old value and of the operand.
@@ -57,5 +59,15 @@ pub fn length_asked(source: Source, rd: u8, rs1: u8, operand: u64) -> Avl
                 Avl::Keep
             }
         }
+    }
+}
+
+/// Puts into the register `rd` what it is told, where it is told something.
+pub fn put_told(regs: &mut Regs, rd: u8, told: Option<u64>)
+    requires { rd < 32 }
+    ensures { regs.new.x ≡ with_told regs.old.x rd told }
+{
+    if let Some(value) = told {
+        regs.write(rd, value);
     }
 }

@@ -38,7 +38,7 @@ abbrev pub exchange_at : Flat → Instr → Option Exchange
 exchange_at s i = exchange s.v (control_number i) (change_in i.op) i.rs1 (operand_of i s.x)
 
 -- the rows that the machine executes. Those of vectors, and of control registers, which are theirs, it executes where they are
--- enabled; vector arithmetic it doesn't execute yet
+-- enabled
 abbrev pub is_executed : (enabled : Bool) → Class → Bool
 is_executed enabled class.Arithmetic = true
 is_executed enabled class.Multiply = true
@@ -52,7 +52,7 @@ is_executed enabled class.Ecall = true
 is_executed enabled class.Ebreak = true
 is_executed enabled class.Csr = enabled
 is_executed enabled class.Set = enabled
-is_executed enabled (class.VectorArithmetic family) = false
+is_executed enabled (class.VectorArithmetic family) = enabled
 is_executed enabled (class.VectorLoad addressing width) = enabled
 is_executed enabled (class.VectorStore addressing width) = enabled
 

@@ -94,3 +94,51 @@ fn keeping_vl_at_another_ratio_sets_vill(rt: HostRuntime) -> Result<(), Fail> {
     assert_eq!(rt; machine.step(), Turn::Faulted(fault));
     Ok(())
 }
+
+/// Vector arithmetic at e32: the indices of up to 16 elements, to the third of which a masked vadd.vv from vstart 1 on adds 5;
+/// their sum by vredsum.vs, with a count of the mask's two bits by vcpop.m from bit 8 on, and bit 16 where vsadd.vi saturated;
+/// exit(all of that).
+const VECTORS: [u8; 100] = [
+    0x13, 0x05, 0x00, 0x01, 0xd7, 0x72, 0x05, 0x01, 0xd7, 0xa0, 0x08, 0x52, 0x57, 0xa1, 0x08, 0x52,
+    0x13, 0x03, 0x50, 0x00, 0x57, 0x42, 0x03, 0x5e, 0x57, 0x60, 0x03, 0x42, 0x93, 0x03, 0x10, 0x00,
+    0x73, 0x90, 0x83, 0x00, 0x57, 0x01, 0x12, 0x00, 0x57, 0x33, 0x00, 0x5e, 0x57, 0x24, 0x23, 0x02,
+    0xd7, 0x25, 0x80, 0x42, 0x57, 0x26, 0x08, 0x42, 0x93, 0x0e, 0xf0, 0xff, 0x93, 0xde, 0x1e, 0x02,
+    0x57, 0xc6, 0x0e, 0x5e, 0x57, 0xb7, 0xc0, 0x86, 0xf3, 0x26, 0x90, 0x00, 0x13, 0x16, 0x86, 0x00,
+    0x93, 0x96, 0x06, 0x01, 0x33, 0x85, 0xc5, 0x00, 0x33, 0x05, 0xd5, 0x00, 0x93, 0x08, 0xd0, 0x05,
+    0x73, 0x00, 0x00, 0x00,
+];
+
+#[test]
+fn vector_arithmetic_is_done_on_registers_of_each_length(rt: HostRuntime) -> Result<(), Fail> {
+    let image = raw_image(rt.alloc(), &VECTORS)?;
+    let mut narrow = Alone::boot(rt.alloc(), &image, 128)?;
+    let mut wide = Alone::boot(rt.alloc(), &image, 256)?;
+    for _ in 0..24 {
+        assert_eq!(rt; narrow.step(), Turn::Next);
+        assert_eq!(rt; wide.step(), Turn::Next);
+    }
+    assert_eq!(rt; narrow.step(), Turn::Exited(11 + 2 * 0x100 + 0x10000));
+    assert_eq!(rt; wide.step(), Turn::Exited(33 + 2 * 0x100 + 0x10000));
+    assert_eq!(rt; wide.arch().v.vstart(), 0);
+    Ok(())
+}
+
+/// vsetvli t0, x0, e32, m1, tu, mu; then vadd.vv v0, v1, v2, v0.t, which would overwrite its mask.
+const OVERWRITES_MASK: [u8; 8] = [0xd7, 0x72, 0x00, 0x01, 0x57, 0x00, 0x11, 0x00];
+
+#[test]
+fn vector_arithmetic_that_is_illegal_faults(rt: HostRuntime) -> Result<(), Fail> {
+    let image = raw_image(rt.alloc(), &OVERWRITES_MASK)?;
+    let mut machine = Alone::boot(rt.alloc(), &image, 256)?;
+    assert_eq!(rt; machine.step(), Turn::Next);
+    assert_eq!(rt;
+        machine.step(),
+        Turn::Faulted(Fault {
+            cause: 2,
+            tval: 0x0011_0057,
+            vstart: 0
+        })
+    );
+    assert_eq!(rt; machine.arch().v.vl(), 8);
+    Ok(())
+}
