@@ -3,3 +3,10 @@ pub mod Labelled
 pub mod Naming
 pub mod Passing
 pub mod Lexing
+pub mod Chunks
+pub mod Judged
+pub mod Laying
+pub mod Room
+pub mod Emission
+pub mod Assembled
+pub mod Sliced

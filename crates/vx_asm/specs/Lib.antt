@@ -1,3 +1,9 @@
-pub mod Reading
-pub mod Labelling
+pub mod Assembling
 pub mod Defining
+pub mod Emitting
+pub mod Judging
+pub mod Labelling
+pub mod Laying
+pub mod Parts
+pub mod Reading
+pub mod Written

@@ -27,8 +27,8 @@ pub fn define<'a>(
     }
 }
 
-/// Adds the labels of a line with these tokens, which stands at a place, and answers the first fault of one that is defined again. `Err` where memory is
-/// wanting.
+/// Adds the labels of a line with these tokens, which stands at a place, and answers the first fault of one that is defined
+/// again. `Err` where memory is wanting.
 pub fn define_all<'a>(
     labels: &mut Labels<'a>,
     tokens: &[Lexeme<'a>],

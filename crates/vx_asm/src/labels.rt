@@ -19,8 +19,8 @@ pub struct Defined<'a> {
     pub fault: Option<Fault>,
 }
 
-/// The labels of a source, in the order of their definitions, each at the first place, and the first fault of one that is defined
-/// again. `Err` where memory is wanting.
+/// The labels of a source, in the order of their definitions, each at the first place, and the first fault of one that is
+/// defined again. `Err` where memory is wanting.
 pub fn defined_labels<'a>(alloc: Global, source: &'a [u8]) -> Result<Defined<'a>, AllocError>
     ensures fault { IfOk result (λ defined. defined.fault ≡ first_of (twice_faults [] (labels_in (lines source.entry.now)))) }
     ensures labels { IfOk result (λ defined. Know defined.labels (label_names (lines source.entry.now))) }

@@ -1,18 +1,27 @@
-//! The assembler, as far as it goes: the lines of a source, its labels, and its first lexical fault.
+//! The assembler: from the text of a source to its program, or its first fault.
 //!
-//! It stands on `vx_language`, whose definitions say which faults a source has, on `vx_lex`, which cuts a source into pieces,
-//! and on `vx_statement`, which judges a statement. To the crate above it gives `read_line`, `labels_length`, which tells a
-//! line's labels from its statement, `defined_labels` and `lexical_fault`.
+//! It stands on `vx_language`, whose definitions say which faults a source has and which program it is, on `vx_lex`, which
+//! cuts a source into pieces, on `vx_statement`, which judges a statement, and on `vx_code`, which puts what one says. To the
+//! crate above it gives `assemble`: the program of a source without a fault, or else the first fault.
 #![tactic(auto)]
 
+mod asm_fault;
+mod assembler;
 mod defining;
+mod emit;
+mod judge;
 mod label;
 mod labels;
 mod lexical;
 mod line;
+mod part;
+mod parts;
+mod placing;
 #[cfg(test)]
 mod tests;
 
+pub use asm_fault::AsmFault;
+pub use assembler::assemble;
 pub use defining::{define, define_all};
 pub use label::{begin_with_label, labels_length};
 pub use labels::{Defined, defined_labels};
