@@ -1,4 +1,5 @@
 use std::test::Fail;
+use vx_base::Fault;
 use vx_alone::{Alone, End, Turn};
 use vx_image::raw_image;
 
@@ -11,7 +12,7 @@ pub const HI: [u8; 40] = [
 
 #[test]
 fn a_process_writes_a_text_and_exits(rt: HostRuntime) -> Result<(), Fail> {
-    let mut machine = Alone::boot(rt.alloc(), &raw_image(rt.alloc(), &HI)?)?;
+    let mut machine = Alone::boot(rt.alloc(), &raw_image(rt.alloc(), &HI)?, 128)?;
     for _ in 0..8 {
         assert_eq!(rt; machine.step(), Turn::Next);
     }
@@ -22,5 +23,70 @@ fn a_process_writes_a_text_and_exits(rt: HostRuntime) -> Result<(), Fail> {
         assert_eq!(rt; machine.count(), 9);
         assert_eq!(rt; machine.arch().pc, 0x10020);
     }
+    Ok(())
+}
+
+/// At 0x10050, loads four words and stores them below the stack pointer, stores them once more at one place (by stride 0), loads
+/// of the same bytes elements of two fields under the mask 5, stores each field, and writes the 28 bytes.
+const MOVES: [u8; 100] = [
+    0x17, 0x05, 0x00, 0x00, 0x93, 0x05, 0x05, 0x05, 0x57, 0x70, 0x02, 0xcd, 0x07, 0xe4, 0x05, 0x02,
+    0x13, 0x06, 0x01, 0xfc, 0x27, 0x64, 0x06, 0x02, 0x93, 0x06, 0x06, 0x01, 0x27, 0xe4, 0x06, 0x0a,
+    0x13, 0x07, 0x05, 0x06, 0x07, 0x00, 0xb7, 0x02, 0x07, 0x85, 0x05, 0x20, 0x93, 0x06, 0x46, 0x01,
+    0x27, 0x85, 0x06, 0x02, 0x93, 0x06, 0x86, 0x01, 0xa7, 0x85, 0x06, 0x02, 0x13, 0x05, 0x10, 0x00,
+    0x93, 0x05, 0x06, 0x00, 0x13, 0x06, 0xc0, 0x01, 0x93, 0x08, 0x00, 0x04, 0x73, 0x00, 0x00, 0x00,
+    0x01, 0x02, 0x03, 0x04, 0x05, 0x06, 0x07, 0x08, 0x09, 0x0a, 0x0b, 0x0c, 0x0d, 0x0e, 0x0f, 0x10,
+    0x05, 0x00, 0x00, 0x00,
+];
+
+#[test]
+fn vectors_are_loaded_and_stored(rt: HostRuntime) -> Result<(), Fail> {
+    let mut machine = Alone::boot(rt.alloc(), &raw_image(rt.alloc(), &MOVES)?, 128)?;
+    for _ in 0..20 {
+        assert_eq!(rt; machine.step(), Turn::Next);
+    }
+    let written = [
+        1, 2, 3, 4, 5, 6, 7, 8, 9, 10, 11, 12, 13, 14, 15, 16, 13, 14, 15, 16, 1, 0, 5, 0, 2, 0, 6, 0,
+    ];
+    assert_eq!(rt; machine.output(), written.as_slice());
+    Ok(())
+}
+
+/// Loads ten elements of 64 bits, fault-only-first, of which nine lie on the last mapped page.
+const TRIMMED: [u8; 16] = [
+    0x37, 0x15, 0x01, 0x00, 0x13, 0x05, 0x85, 0xfb, 0x57, 0x70, 0xb5, 0xcd, 0x07, 0x74, 0x05, 0x03,
+];
+
+#[test]
+fn a_load_is_trimmed_at_a_fault_behind_its_first_element(rt: HostRuntime) -> Result<(), Fail> {
+    let mut machine = Alone::boot(rt.alloc(), &raw_image(rt.alloc(), &TRIMMED)?, 128)?;
+    for _ in 0..4 {
+        assert_eq!(rt; machine.step(), Turn::Next);
+    }
+    assert_eq!(rt; machine.arch().v.vl(), 9);
+    assert_eq!(rt; machine.arch().v.vstart(), 0);
+    Ok(())
+}
+
+/// Stores four elements at indices from the stack pointer on, the third of which wraps to the page of the code.
+const REFUSED: [u8; 56] = [
+    0x17, 0x05, 0x00, 0x00, 0x13, 0x05, 0x85, 0x01, 0x57, 0x70, 0x92, 0xcd, 0x07, 0x78, 0x05, 0x02,
+    0x27, 0x74, 0x01, 0x07, 0x13, 0x00, 0x00, 0x00, 0x00, 0x00, 0x00, 0x00, 0x00, 0x00, 0x00, 0x00,
+    0x08, 0x00, 0x00, 0x00, 0x00, 0x00, 0x00, 0x00, 0x00, 0x01, 0x01, 0x00, 0xc0, 0xff, 0xff, 0xff,
+    0x10, 0x00, 0x00, 0x00, 0x00, 0x00, 0x00, 0x00,
+];
+
+#[test]
+fn an_indexed_store_faults_at_its_element(rt: HostRuntime) -> Result<(), Fail> {
+    let mut machine = Alone::boot(rt.alloc(), &raw_image(rt.alloc(), &REFUSED)?, 128)?;
+    for _ in 0..4 {
+        assert_eq!(rt; machine.step(), Turn::Next);
+    }
+    let fault = Fault {
+        cause: 15,
+        tval: 0x10000,
+        vstart: 2,
+    };
+    assert_eq!(rt; machine.step(), Turn::Faulted(fault));
+    assert_eq!(rt; machine.arch().v.vstart(), 2);
     Ok(())
 }
