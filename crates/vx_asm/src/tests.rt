@@ -1,37 +1,24 @@
-use crate::{begin_with_label, defined_labels, labels_length, lexical_fault, read_line};
+use crate::{AsmFault, assemble};
 use std::test::Fail;
-use vx_language::{Fault, FaultKind, Span};
-use vx_statement::{own_fault, statement_forms};
+use vx_language::Span;
 
-/// A source whose one line has a label and a number out of its range.
-static SOURCE: &[u8] = b"x: addi a0, a0, 2048\n";
+/// A program of one instruction, and variables whose last bytes are zeros.
+static PROGRAM: &[u8] = b".data\n.byte 7\n.zero 3\n.text\n_start: j _start\n";
+
+/// A line that has a label and a number out of its range.
+static FAULTY: &[u8] = b"x: addi a0, a0, 2048\n";
 
 #[test]
-fn judges_a_line(rt: HostRuntime) -> Result<(), Fail> {
-    assert_eq!(rt; lexical_fault(SOURCE), None);
-    let defined = defined_labels(rt.alloc(), SOURCE)?;
-    assert_eq!(rt; defined.fault, None);
-    assert!(rt; defined.labels.has(b"x"));
-    let line = read_line(rt.alloc(), SOURCE, 0)?;
-    let tokens = line.tokens.as_slice();
-    assert!(rt; begin_with_label(tokens));
-    let statement = &tokens[labels_length(tokens)..];
-    let forms = statement_forms(rt.alloc(), statement)?;
-    let fault = own_fault(
-        rt.alloc(),
-        &defined.labels,
-        true,
-        line.end,
-        statement,
-        forms.as_slice(),
-    )?;
+fn assembles(rt: HostRuntime) -> Result<(), Fail> {
+    let program = assemble(rt.alloc(), PROGRAM)?;
+    assert_eq!(rt; program.entry, 0x10000);
+    assert_eq!(rt; program.code.slice(), [0x6f, 0, 0, 0].as_slice());
+    assert_eq!(rt; program.vars.slice(), [7].as_slice());
+    assert_eq!(rt; program.zero, 3);
     let span = Span { start: 16, end: 20 };
-    assert_eq!(rt;
-        fault,
-        Some(Fault {
-            kind: FaultKind::OutOfRange,
-            span
-        })
-    );
+    match assemble(rt.alloc(), FAULTY) {
+        Ok(_) => assert!(rt; false),
+        Err(fault) => assert_eq!(rt; fault, AsmFault::OutOfRange(span)),
+    }
     Ok(())
 }

@@ -134,8 +134,8 @@ fn code(
     Ok(bytes)
 }
 
-/// What a statement of this form, without a fault, puts at an offset of its section, where the aim tells how far labels are. `Err`
-/// where memory is wanting.
+/// What a statement of this form, without a fault, puts at an offset of its section, where the aim tells how far labels are.
+/// `Err` where memory is wanting.
 #[tactic(auto, unfolding(vx_language::specs::Statements::chunk_of))]
 pub fn chunk_of(
     alloc: Global,

@@ -1,9 +1,9 @@
 //! What one statement of the assembler's language puts into its section: the bytes of its numbers or text, or the words of its
 //! instructions.
 //!
-//! It stands on `vx_statement`, which says which form a statement has, and on `vx_decode`, which makes an instruction's word. To the crate
-//! above it gives `chunk_of`, what a statement without a fault puts at an offset, `offsets_fault`, the first of its labels that
-//! is too far away, and `Aim`, which tells how far labels are.
+//! It stands on `vx_statement`, which says which form a statement has, and on `vx_decode`, which makes an instruction's word.
+//! To the crate above it gives `put_of`, what a statement without a fault does at its place, `reach_fault`, the first of its
+//! labels that is out of reach, and `Aim`, which tells how far labels are.
 #![tactic(auto)]
 
 mod aim;

@@ -50,8 +50,8 @@ fn slot_fault(slot: Slot, token: &Lexeme<'_>, aim: &Aim<'_, '_>) -> Option<Fault
     }
 }
 
-/// The first of a statement's labels whose offset doesn't fit its field, where these are the slots that take its tokens. Takes no
-/// memory.
+/// The first of a statement's labels whose offset doesn't fit its field, where these are the slots that take its tokens.
+/// Takes no memory.
 pub fn offsets_fault(way: Way, tokens: &[Lexeme<'_>], aim: &Aim<'_, '_>) -> Option<Fault>
     requires { AreFilled (way_slots (commas_in (pieces_of tokens.now)) way) (pieces_of tokens.now) }
     ensures { result ≡ first_of (offset_faults (aim_of aim.now) (way_slots (commas_in (pieces_of tokens.now)) way) (pieces_of tokens.now)) }

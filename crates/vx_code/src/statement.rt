@@ -58,7 +58,8 @@ fn form_of_statement<'t, 's>(
     }
 }
 
-/// The first of a statement's labels whose offset doesn't fit its field, where the statement has no fault by itself. Takes no memory.
+/// The first of a statement's labels whose offset doesn't fit its field, where the statement has no fault by itself. Takes no
+/// memory.
 pub fn reach_fault(statement: &[Lexeme<'_>], forms: &[Form], aim: &Aim<'_, '_>) -> Option<Fault>
     requires forms { AreFormsOf statement.now forms.now }
     requires faultless { IsFaultless (pieces_of statement.now) }
@@ -70,8 +71,8 @@ pub fn reach_fault(statement: &[Lexeme<'_>], forms: &[Form], aim: &Aim<'_, '_>) 
     }
 }
 
-/// What a statement without a fault does at its place, where the aim tells how far labels are, each in reach. `Err` where memory
-/// is wanting.
+/// What a statement without a fault does at its place, where the aim tells how far labels are, each in reach. `Err` where
+/// memory is wanting.
 pub fn put_of(
     alloc: Global,
     aim: &Aim<'_, '_>,
