@@ -2,7 +2,10 @@
 use Rattle.std.specs.Prelude.{◌≡◌, ℕ, ◌⊎◌, List, [], ◌∷◌, Some, None}
 use Rattle.vx_base.specs.Shelf.{ShelfState, AsksFor, Reads, FailsToRead, IsTooLong, IsUnasked}
 use Rattle.vx_base.specs.Sink.{SinkState, IsWritten, IsBegun, IsCutOff}
+use Rattle.vx_elf.specs.Writing.{written}
 use Rattle.vx_image.specs.Pages.{Image}
+use Rattle.vx_language.specs.Assembly.{faults, first_fault, assembled}
+use Rattle.vx_language.specs.declared.fault.Fault.{Fault}
 use Rattle.vx_machine.specs.Accounts.{account_of, IsTrueOf}
 use Rattle.vx_machine.specs.ImageFiles.{file_fault, image_of_file}
 use Rattle.vx_machine.specs.Machine.{Settings, settings_for, machine, stop_of}
@@ -10,13 +13,13 @@ use Rattle.vx_machine.specs.Report.{report}
 use Rattle.vx_machine.specs.declared.stop.Stop.{Stop}
 use Rattle.vx_machine.specs.declared.stop.Stop.TheVariants as stop
 use Rattle.vx_source.specs.Listing.{listing}
-use Rattle.vx_words.specs.Notes.{file_limit, bad_words, read_failed, bad_image, write_failed, no_memory}
+use Rattle.vx_words.specs.Notes.{file_limit, bad_words, read_failed, bad_image, bad_source, write_failed, no_memory}
 use Rattle.vx_words.specs.declared.file_fault.FileFault.{FileFault}
 use Rattle.vx_words.specs.declared.file_fault.FileFault.TheVariants.{TooLong}
 use Rattle.vx_words.specs.Words.{Given, ImageFile, name_of, AskFor, AskForFile, AskToRun, AreOutside, IsFirstBad}
-use Rattle.vx_words.specs.Words.Command.{Run, Dis}
+use Rattle.vx_words.specs.Words.Command.{Run, Dis, Asm}
 use Rattle.vx_words.specs.declared.status.Status.{Status}
-use Rattle.vx_words.specs.declared.status.Status.TheVariants.{Done, Usage, ReadFault, BadImage, WriteFault, Spent, NoMemory}
+use Rattle.vx_words.specs.declared.status.Status.TheVariants.{Done, Usage, ReadFault, BadImage, WriteFault, Spent, NoMemory, BadSource}
 
 -- what the call is handed: the shelf, where the report goes and where the notes go
 pub record Devices : Type 0 where
@@ -101,9 +104,31 @@ pub record HasListed (words : List (List ℕ)) (before after : Devices) (status 
   pub lists : text ≡ listing bytes
   pub answers : status ≡ Done
 
+-- the words ask to assemble a file; it is a source without a fault, and this is the ELF file of its program
+pub record HasAssembled (words : List (List ℕ)) (before after : Devices) (status : Status) (text : List ℕ) : Type 0 where
+  pub name : List ℕ
+  pub asks : AskFor words (Asm name)
+  pub bytes : List ℕ
+  pub read : Reads before.shelf after.shelf name file_limit bytes
+  pub faultless : faults bytes ≡ []
+  pub writes : text ≡ written (assembled bytes)
+  pub answers : status ≡ Done
+
 -- the command's job is done with this status, and its text is this
 abbrev pub HasText : List (List ℕ) → Devices → Devices → Status → List ℕ → Type 0
-HasText words before after status text = HasRun words before after status text ⊎ HasListed words before after status text
+HasText words before after status text =
+    HasRun words before after status text ⊎ HasListed words before after status text ⊎ HasAssembled words before after status text
+
+-- the words ask to assemble a file, and it is a source with a fault, which is the first
+pub record HasBadSource (words : List (List ℕ)) (before after : Devices) : Type 0 where
+  pub name : List ℕ
+  pub asks : AskFor words (Asm name)
+  pub bytes : List ℕ
+  pub read : Reads before.shelf after.shelf name file_limit bytes
+  pub fault : Fault
+  pub first : first_fault bytes ≡ Some fault
+  pub out : after.out ≡ before.out
+  pub note : IsNoted before.note after.note (bad_source name bytes fault)
 
 -- the text was written whole
 pub record HasTold (words : List (List ℕ)) (before after : Devices) (status : Status) : Type 0 where
@@ -142,3 +167,4 @@ Claims words before after BadImage = HasBadImage words before after
 Claims words before after WriteFault = HasWriteFault words before after
 Claims words before after Spent = HasTold words before after Spent
 Claims words before after NoMemory = HasNoMemory words before after
+Claims words before after BadSource = HasBadSource words before after

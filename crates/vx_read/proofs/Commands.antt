@@ -4,7 +4,7 @@ use Rattle.std.specs.Prelude.{codes}
 use Rattle.std.specs.Str.{bytes_eq}
 use Rattle.std.proofs.lemmas.Bool.{false≢true}
 use Rattle.vx_words.specs.Words.{Command, AskFor, AreOutside, AreBegun, IsFirstBad}
-use Rattle.vx_words.specs.Words.Command.{Run, Dis}
+use Rattle.vx_words.specs.Words.Command.{Run, Dis, Asm}
 use Rattle.vx_read.specs.Behind.{AreOptionsAndImage}
 use Rattle.vx_read.specs.Files.{IsOneFile, AreOneFile, AreBad}
 use Rattle.vx_read.proofs.Heads.{asks, asked}
@@ -15,10 +15,12 @@ use Rattle.vx_read.proofs.Whole.{AreRun, one_reading}
 abbrev pub word_of : Command → List ℕ
 word_of (Run givens image) = codes "run"
 word_of (Dis name) = codes "dis"
+word_of (Asm name) = codes "asm"
 
 begins : (words : List (List ℕ)) (command : Command) → AskFor words command → (rest : List (List ℕ)) × (words ≡ word_of command ∷ rest)
 begins words (Run givens image) asks = (asks.0 ++ asks.1 ∷ [], asks.2)
 begins words (Dis name) asks = (name ∷ [], asks.0)
+begins words (Asm name) asks = (name ∷ [], asks.0)
 
 word_is : (word : List ℕ) (rest : List (List ℕ)) (command : Command) → AskFor (word ∷ rest) command → word ≡ word_of command
 word_is word rest command asks = let begun = begins (word ∷ rest) command asks in let e = begun.1 in cc
@@ -90,6 +92,34 @@ dis_word = record {
   same = λ words one other asks_one asks_other. dis_same words one other (dis_on words one asks_one) (dis_on words other asks_other);
 }
 
+-- `asm`
+abbrev AsmOn : List (List ℕ) → Command → Type 0
+AsmOn words (Asm name) = IsOneFile words name
+AsmOn words other = ⊥
+
+asm_on : (words : List (List ℕ)) (command : Command) → AskFor (codes "asm" ∷ words) command → AsmOn words command
+asm_on words (Asm name) asks = let e = asks.0 in (cc, asks.1)
+asm_on words other asks = absurd (other_word (codes "asm") words other refl refl asks)
+
+asm_fits : (words : List (List ℕ)) (command : Command) → AsmOn words command → AreOneFile words
+asm_fits words (Asm name) on = (name, on)
+asm_fits words other on = absurd on
+
+asm_same : (words : List (List ℕ)) (one other : Command) → AsmOn words one → AsmOn words other → one ≡ other
+asm_same words (Asm name) (Asm more) on_one on_other = ap (λ n. Asm n) (one_name words name more on_one on_other)
+asm_same words (Asm name) other on_one on_other = absurd on_other
+asm_same words one other on_one on_other = absurd on_one
+
+asm_asks : (words : List (List ℕ)) (name : List ℕ) → IsOneFile words name → AskFor (codes "asm" ∷ words) (Asm name)
+asm_asks words name one = (ap (λ w. codes "asm" ∷ w) one.0, one.1)
+
+pub asm_word : IsWordOf (codes "asm") AreOneFile
+asm_word = record {
+  some = λ words fit. (Asm fit.0, asm_asks words fit.0 fit.1);
+  only = λ words command asks. asm_fits words command (asm_on words command asks);
+  same = λ words one other asks_one asks_other. asm_same words one other (asm_on words one asks_one) (asm_on words other asks_other);
+}
+
 -- words that don't fit behind a command's word
 pub outside_by : (word : List ℕ) (Fit : List (List ℕ) → Type 0) (words rest : List (List ℕ)) (index : ℕ) → IsWordOf word Fit → words ≡ word ∷ rest → AreBad Fit rest index → AreOutside words
 outside_by word Fit words rest index of is bad command asks =
@@ -120,18 +150,19 @@ begun_none = let some = dis_word.some some_file.0 some_file.1 in (codes "dis" �
 pub first_bad_none : IsFirstBad [] 0
 first_bad_none = record { begun = begun_none; within = omega arith; bad = λ inside begun. absurd (omega arith) }
 
-no_word : (word : List ℕ) (command : Command) → word ≢ codes "run" → word ≢ codes "dis" → word ≡ word_of command → ⊥
-no_word word (Run givens image) no_run no_dis is = no_run is
-no_word word (Dis name) no_run no_dis is = no_dis is
+no_word : (word : List ℕ) (command : Command) → word ≢ codes "run" → word ≢ codes "dis" → word ≢ codes "asm" → word ≡ word_of command → ⊥
+no_word word (Run givens image) no_run no_dis no_asm is = no_run is
+no_word word (Dis name) no_run no_dis no_asm is = no_dis is
+no_word word (Asm name) no_run no_dis no_asm is = no_asm is
 
-pub outside_command : (word : List ℕ) (rest : List (List ℕ)) → word ≢ codes "run" → word ≢ codes "dis" → AreOutside (word ∷ rest)
-outside_command word rest no_run no_dis command asks = no_word word command no_run no_dis (word_is word rest command asks)
+pub outside_command : (word : List ℕ) (rest : List (List ℕ)) → word ≢ codes "run" → word ≢ codes "dis" → word ≢ codes "asm" → AreOutside (word ∷ rest)
+outside_command word rest no_run no_dis no_asm command asks = no_word word command no_run no_dis no_asm (word_is word rest command asks)
 
-pub first_bad_command : (word : List ℕ) (rest : List (List ℕ)) → word ≢ codes "run" → word ≢ codes "dis" → IsFirstBad (word ∷ rest) 0
-first_bad_command word rest no_run no_dis = record {
+pub first_bad_command : (word : List ℕ) (rest : List (List ℕ)) → word ≢ codes "run" → word ≢ codes "dis" → word ≢ codes "asm" → IsFirstBad (word ∷ rest) 0
+first_bad_command word rest no_run no_dis no_asm = record {
   begun = begun_none;
   within = omega arith;
-  bad = λ inside begun. outside_command word begun.0 no_run no_dis begun.1 begun.2;
+  bad = λ inside begun. outside_command word begun.0 no_run no_dis no_asm begun.1 begun.2;
 }
 
 -- the words ask for one command
@@ -143,3 +174,4 @@ one_by word Fit words rest one other of is asks_one asks_other =
 pub one_command : (words : List (List ℕ)) (one other : Command) → AskFor words one → AskFor words other → one ≡ other
 one_command words (Run givens image) other asks_one asks_other = one_by (codes "run") AreRun words (asks_one.0 ++ asks_one.1 ∷ []) (Run givens image) other run_word asks_one.2 asks_one asks_other
 one_command words (Dis name) other asks_one asks_other = one_by (codes "dis") AreOneFile words (name ∷ []) (Dis name) other dis_word asks_one.0 asks_one asks_other
+one_command words (Asm name) other asks_one asks_other = one_by (codes "asm") AreOneFile words (name ∷ []) (Asm name) other asm_word asks_one.0 asks_one asks_other

@@ -2,7 +2,7 @@
 use Rattle.std.specs.Prelude.{◌≡◌, ℕ, List, IfSome}
 use Rattle.vx_words.specs.Words.{Given, given_number, IsInRange, AskFor}
 use Rattle.vx_words.specs.Words.OptionName.{Window, Lanes, Budget}
-use Rattle.vx_words.specs.Words.Command.{Run, Dis}
+use Rattle.vx_words.specs.Words.Command.{Run, Dis, Asm}
 use Rattle.vx_read.specs.declared.asked.Asked.{Asked}
 use Rattle.vx_read.specs.declared.asked.Asked.TheVariants as asked
 use Rattle.vx_read.specs.declared.run_words.RunWords.{RunWords}
@@ -27,3 +27,4 @@ pub record AreRead (words : List (List ℕ)) (run : RunWords) : Type 0 where
 abbrev pub IsRead : List (List ℕ) → Asked → Type 0
 IsRead words (asked.Run run) = AreRead words run
 IsRead words (asked.Dis name) = AskFor words (Dis name.now)
+IsRead words (asked.Asm name) = AskFor words (Asm name.now)

@@ -7,4 +7,6 @@ pub enum Asked<'a> {
     Run(RunWords<'a>),
     /// List the instructions of the file of this name, which isn't empty and doesn't begin with `-`.
     Dis(&'a str),
+    /// Assemble the source in the file of this name, which isn't empty and doesn't begin with `-`.
+    Asm(&'a str),
 }

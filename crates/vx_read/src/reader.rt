@@ -10,7 +10,8 @@ use crate::fronts::{Front, first_word, front_of};
 use crate::numbers::Numbers;
 use crate::run_words::RunWords;
 
-/// Reads the words of the command line, without the program's name: `run`, then options, then an image; or `dis FILE`.
+/// Reads the words of the command line, without the program's name: `run`, then options, then an image; or
+/// `dis FILE` or `asm FILE`.
 ///
 /// An option is two words, `--name number`, or one, `--name=number`; each is given at most once. A number is its decimal
 /// digits without a leading zero, in the option's range. An image is `raw:NAME` with NAME not empty, which is raw bytes, or
@@ -34,6 +35,10 @@ pub fn read<'a>(words: &'a [String]) -> Result<Asked<'a>, usize>
         },
         "dis" => match one_file(rest) {
             Ok(name) => Ok(Asked::Dis(name)),
+            Err(index) => Err(index + 1),
+        },
+        "asm" => match one_file(rest) {
+            Ok(name) => Ok(Asked::Asm(name)),
             Err(index) => Err(index + 1),
         },
         _ => Err(0),

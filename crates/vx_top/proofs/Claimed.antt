@@ -30,7 +30,7 @@ use Rattle.vx_words.specs.Words.ImageFile.{Raw, Elf}
 use Rattle.vx_words.specs.declared.file_fault.FileFault.{FileFault}
 use Rattle.vx_words.specs.declared.file_fault.FileFault.TheVariants.{TooLong, BadElf, NoImage}
 use Rattle.vx_words.specs.declared.status.Status.{Status}
-use Rattle.vx_words.specs.declared.status.Status.TheVariants.{Done, Usage, ReadFault, BadImage, WriteFault, Spent, NoMemory}
+use Rattle.vx_words.specs.declared.status.Status.TheVariants.{Done, Usage, ReadFault, BadImage, WriteFault, Spent, NoMemory, BadSource}
 
 -- a status was answered with its note, where that is what its text is
 pub Answers-from : {T E : Type 0} (bytes : T → List ℕ) (text : Result T E) (before after : SinkState) (status answer : Status) (note : List ℕ) → IfOk text (λ t. bytes t ≡ note) → MatchResult text (λ t. (answer ≡ status) × IsNoted before after (bytes t)) (λ _. NotesWant before after answer) → Answers before after status note answer
@@ -63,6 +63,7 @@ HasRun-from words run read options for before after report status answers ran = 
 pub Claims-report : (words : List (List ℕ)) (run : RunWords) (read : AreRead words run) (options : Options) (for : AreFor options run) (before after : Devices) (report : Report) (answer : Status) → RanFile (settings_of options) before.shelf after.shelf (image_of run.image) report → TellsReport before.out after.out before.note after.note report answer → Claims words before after answer
 Claims-report words run read options for before after report Usage ran told = elim told [ ]
 Claims-report words run read options for before after report ReadFault ran told = elim told [ ]
+Claims-report words run read options for before after report BadSource ran told = elim told [ ]
 Claims-report words run read options for before after report BadImage ran told = elim told [ ]
 Claims-report words run read options for before after report NoMemory ran told = elim told [ ]
 Claims-report words run read options for before after report Done ran told = record {
@@ -86,12 +87,12 @@ Claims-report words run read options for before after report WriteFault ran told
 }
 
 -- memory was wanting for the note of a file that was asked for
-HasNoMemory-asked : (words : List (List ℕ)) (name : List ℕ) → AskForFile words name → (before after : Devices) → AsksFor before.shelf after.shelf name → after.out ≡ before.out → (answer : Status) → NotesWant before.note after.note answer → Claims words before after answer
+pub HasNoMemory-asked : (words : List (List ℕ)) (name : List ℕ) → AskForFile words name → (before after : Devices) → AsksFor before.shelf after.shelf name → after.out ≡ before.out → (answer : Status) → NotesWant before.note after.note answer → Claims words before after answer
 HasNoMemory-asked words name ask before after asks out answer want =
     rw want.0 (record { shelf = inr (name, ask, asks); out = inl out; note = want.1 })
 
 -- a file can't be read, and that was told
-Claims-unread : (words : List (List ℕ)) (name : List ℕ) → AskForFile words name → (before after : Devices) (refusal : Refusal) (answer : Status) → after.out ≡ before.out → RefusesFile before.shelf after.shelf name refusal → TellsRefusal before.note after.note name refusal answer → Claims words before after answer
+pub Claims-unread : (words : List (List ℕ)) (name : List ℕ) → AskForFile words name → (before after : Devices) (refusal : Refusal) (answer : Status) → after.out ≡ before.out → RefusesFile before.shelf after.shelf name refusal → TellsRefusal before.note after.note name refusal answer → Claims words before after answer
 Claims-unread words name ask before after refusal.ReadFault answer out cause (inl told) =
     rw told.0 (record { name = name; asks = ask; read = cause; out = out; note = told.1 })
 Claims-unread words name ask before after refusal.ReadFault answer out cause (inr want) =
@@ -157,18 +158,19 @@ Claims-refusal words run read before after refusal answer out (inr cause) told =
 pub Claims-listing : (words : List (List ℕ)) (name : List ℕ) (asks : AskFor words (Dis name)) (before after : Devices) (bytes : List ℕ) (answer : Status) → Reads before.shelf after.shelf name file_limit bytes → TellsListing before.out after.out before.note after.note (listing bytes) answer → Claims words before after answer
 Claims-listing words name asks before after bytes Usage read told = elim told [ ]
 Claims-listing words name asks before after bytes ReadFault read told = elim told [ ]
+Claims-listing words name asks before after bytes BadSource read told = elim told [ ]
 Claims-listing words name asks before after bytes BadImage read told = elim told [ ]
 Claims-listing words name asks before after bytes Spent read told = elim told [ ]
 Claims-listing words name asks before after bytes Done read told = record {
   text = listing bytes;
-  job = inr (record { name = name; asks = asks; bytes = bytes; read = read; lists = refl; answers = refl });
+  job = inr (inl (record { name = name; asks = asks; bytes = bytes; read = read; lists = refl; answers = refl }));
   out = told.0;
   note = told.1;
 }
 Claims-listing words name asks before after bytes WriteFault read told = record {
   status = Done;
   text = listing bytes;
-  job = inr (record { name = name; asks = asks; bytes = bytes; read = read; lists = refl; answers = refl });
+  job = inr (inl (record { name = name; asks = asks; bytes = bytes; read = read; lists = refl; answers = refl }));
   out = told.0;
   note = told.1;
 }

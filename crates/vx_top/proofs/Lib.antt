@@ -1,3 +1,4 @@
 pub mod Claimed
 pub mod Headlined
 pub mod Settled
+pub mod Sourced

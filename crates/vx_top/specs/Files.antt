@@ -81,6 +81,7 @@ TellsReport out out' note note' report status.Usage = ⊥
 TellsReport out out' note note' report status.ReadFault = ⊥
 TellsReport out out' note note' report status.BadImage = ⊥
 TellsReport out out' note note' report status.NoMemory = ⊥
+TellsReport out out' note note' report status.BadSource = ⊥
 
 -- the status that tells how a listing went: what it says of the sink for the listing and of the one for notes
 abbrev pub TellsListing : SinkState → SinkState → SinkState → SinkState → List ℕ → Status → Type 0
@@ -91,3 +92,4 @@ TellsListing out out' note note' text status.Spent = ⊥
 TellsListing out out' note note' text status.Usage = ⊥
 TellsListing out out' note note' text status.ReadFault = ⊥
 TellsListing out out' note note' text status.BadImage = ⊥
+TellsListing out out' note note' text status.BadSource = ⊥

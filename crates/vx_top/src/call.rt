@@ -4,6 +4,7 @@ ghost use Rattle.vx_read.specs.Read.{AreInRange, AreRead};
 ghost use Rattle.vx_words.specs.Words.{AskFor};
 ghost use Rattle.vx_words.specs.Words.Command.{Dis};
 
+use crate::asm::asm;
 use crate::load::{name_of, read_file};
 use crate::notes;
 use crate::options::options_for;
@@ -48,8 +49,8 @@ fn dis<F: Shelf, K: Sink, N: Sink>(
     }
 }
 
-/// All that the program does: reads the words, runs the image or lists the file that they name, writes the report or the
-/// listing on `out`, and answers a status, with its note on `note`.
+/// All that the program does: reads the words, runs the image, lists the file or assembles the source that they name, writes
+/// the report, the listing or the ELF file on `out`, and answers a status, with its note on `note`.
 pub fn vexec<F: Shelf, K: Sink, N: Sink>(
     alloc: Global,
     words: &[String],
@@ -62,6 +63,7 @@ pub fn vexec<F: Shelf, K: Sink, N: Sink>(
     match read(words) {
         Ok(Asked::Run(asked)) => run(alloc, &asked, shelf, out, note),
         Ok(Asked::Dis(name)) => dis(alloc, name, shelf, out, note),
+        Ok(Asked::Asm(name)) => asm(alloc, name, shelf, out, note),
         Err(index) => tell(note, Status::Usage, notes::bad_words(alloc, index)),
     }
 }

@@ -1,10 +1,11 @@
 //! The program's call `vexec`.
 //!
 //! It stands on `vx_read`, which reads the words, `vx_elf` and `vx_image`, which make images of files, `vx_system`, which
-//! runs the machine, `vx_dis`, which lists, and on the definitions of `vx_words` and `vx_machine`. To the program it gives
-//! `vexec`, whose contract is the whole claim.
+//! runs the machine, `vx_dis`, which lists, `vx_asm`, which assembles, and on the definitions of `vx_words` and `vx_machine`. To
+//! the program it gives `vexec`, whose contract is the whole claim.
 #![tactic(auto)]
 
+mod asm;
 mod call;
 mod fault_notes;
 mod load;
@@ -12,6 +13,7 @@ mod notes;
 mod options;
 mod refusal;
 mod run;
+mod source_notes;
 mod tell;
 
 pub use call::vexec;

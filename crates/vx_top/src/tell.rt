@@ -15,7 +15,7 @@ use vx_machine::Stop;
 use vx_words::Status;
 
 /// Writes a note. A fault of its sink changes nothing.
-fn write_note<N: Sink>(note: &mut N, text: &str)
+pub fn write_note<N: Sink>(note: &mut N, text: &str)
     ensures { IsNoted (N.state note.old) (N.state note.new) text.now }
 {
     match write_text(note, text.as_bytes()) {
@@ -25,7 +25,7 @@ fn write_note<N: Sink>(note: &mut N, text: &str)
 }
 
 /// Notes that memory was wanting.
-fn tell_want<N: Sink>(note: &mut N) -> Status
+pub fn tell_want<N: Sink>(note: &mut N) -> Status
     ensures { NotesWant (N.state note.old) (N.state note.new) result }
 {
     write_note(note, notes::no_memory());

@@ -1,4 +1,5 @@
 pub mod Lines
 pub mod Notes
+pub mod Sources
 pub mod Statuses
 pub mod Words

@@ -7,7 +7,9 @@ use Rattle.vx_elf.specs.declared.fault.ElfFault.TheVariants.{Short, NotElf, NotR
 use Rattle.vx_image.specs.declared.fault.ImageFault.{ImageFault}
 use Rattle.vx_image.specs.declared.fault.ImageFault.TheVariants as image
 use Rattle.vx_image.specs.declared.fault.ImageFault.TheVariants.{RawLength, WriteExec, TooManyPages, EntryNotCode}
+use Rattle.vx_language.specs.declared.fault.Fault.{Fault}
 use Rattle.vx_words.specs.Lines.{line}
+use Rattle.vx_words.specs.Sources.{line_number, column_number, source_fault_text}
 use Rattle.vx_words.specs.declared.file_fault.FileFault.{FileFault}
 use Rattle.vx_words.specs.declared.file_fault.FileFault.TheVariants.{TooLong, BadElf, NoImage}
 
@@ -58,3 +60,8 @@ write_failed = note (codes "write failed" ∷ [])
 
 abbrev pub no_memory : List ℕ
 no_memory = note (codes "no memory" ∷ [])
+
+-- a source's fault: where it is, and what it is
+abbrev pub bad_source : List ℕ → List ℕ → Fault → List ℕ
+bad_source name source fault =
+    note (name ∷ codes ":" ∷ decimal (line_number source fault.span.start) ∷ codes ":" ∷ decimal (column_number source fault.span.start) ∷ codes ": " ∷ source_fault_text fault.kind ∷ [])

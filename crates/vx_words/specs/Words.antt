@@ -85,11 +85,14 @@ pub data Command : Type 0 where
   Run : (givens : List Given) (image : ImageFile) → Command
   -- list the instructions of the file of this name
   Dis : (name : List ℕ) → Command
+  -- assemble the source in the file of this name
+  Asm : (name : List ℕ) → Command
 
 -- the name of the file that a command is on
 abbrev pub file_of : Command → List ℕ
 file_of (Run givens image) = name_of image
 file_of (Dis name) = name
+file_of (Asm name) = name
 
 -- the words ask for the command
 abbrev pub AskFor : List (List ℕ) → Command → Type 0
@@ -100,6 +103,7 @@ AskFor words (Run givens image) =
     × SpellAll options givens
     × IsImage word image
 AskFor words (Dis name) = (words ≡ codes "dis" ∷ name ∷ []) × IsFile name
+AskFor words (Asm name) = (words ≡ codes "asm" ∷ name ∷ []) × IsFile name
 
 -- the words ask for a command on the file of this name
 abbrev pub AskForFile : List (List ℕ) → List ℕ → Type 0

@@ -18,6 +18,8 @@ pub enum Status {
     Spent,
     /// Memory was wanting.
     NoMemory,
+    /// A source has a fault.
+    BadSource,
 }
 
 impl Status {
@@ -33,6 +35,7 @@ impl Status {
             Status::WriteFault => 4,
             Status::Spent => 5,
             Status::NoMemory => 8,
+            Status::BadSource => 9,
         }
     }
 }

@@ -2,7 +2,7 @@ use Rattle.std.proofs.Common.{◌∷◌, ap, ◌∙◌, map, string_bytes}
 use Rattle.std.specs.Prelude.{codes}
 use Rattle.vx_read.specs.Files.{AreOneFile}
 use Rattle.vx_read.proofs.Whole.{AreRun, run_bad}
-use Rattle.vx_read.proofs.Commands.{run_word, dis_word, outside_by, first_bad_by, first_bad_none, first_bad_command}
+use Rattle.vx_read.proofs.Commands.{run_word, dis_word, asm_word, outside_by, first_bad_by, first_bad_none, first_bad_command}
 use Rattle.vx_read.proofs.reader.read.Goals as goal
 
 pub returns-in_default-clause-first_bad : goal.returns-in_default-clause-first_bad
@@ -25,4 +25,9 @@ returns-in-Err-one_file-clause-first_bad c =
 
 pub returns-in_default-word-clause-first_bad : goal.returns-in_default-word-clause-first_bad
 returns-in_default-word-clause-first_bad c =
-    rw c.in-Some.ensures (first_bad_command c.in-Some.word.now (map string_bytes c.in-Some.rest.now) c.in_default-word.not-run c.in_default-word.not-dis)
+    rw c.in-Some.ensures (first_bad_command c.in-Some.word.now (map string_bytes c.in-Some.rest.now) c.in_default-word.not-run c.in_default-word.not-dis c.in_default-word.not-asm)
+
+pub returns-in-Err-one_file-2-clause-first_bad : goal.returns-in-Err-one_file-2-clause-first_bad
+returns-in-Err-one_file-2-clause-first_bad c =
+    let rest = map string_bytes c.in-Some.rest.now in
+    first_bad_by (codes "asm") AreOneFile (map string_bytes c.args.words.now) rest c.in-Err-one_file-2.index asm_word (c.in-Some.ensures ∙ ap (λ word. word ∷ rest) c.in-asm.is) c.in-Err-one_file-2.ensures.bad

@@ -8,6 +8,10 @@ pub returns-in-Ok-Dis : goal.returns-in-Ok-Dis
 returns-in-Ok-Dis g c =
     c.dis.ensures (map string_bytes c.args.words.now) (subst (λ (asked : Asked). IsRead (map string_bytes c.args.words.now) asked) c.in-Ok-Dis.field-0-is c.in-Ok-Dis.ensures.asks)
 
+pub returns-in-Ok-Asm : goal.returns-in-Ok-Asm
+returns-in-Ok-Asm g c =
+    c.asm.ensures (map string_bytes c.args.words.now) (subst (λ (asked : Asked). IsRead (map string_bytes c.args.words.now) asked) c.in-Ok-Asm.field-0-is c.in-Ok-Asm.ensures.asks)
+
 pub returns-in-Err : goal.returns-in-Err
 returns-in-Err g c =
     Claims-usage _ _ _ _ _ c.in-Err.index _ (c.in-Err.ensures.outside, c.in-Err.ensures.first_bad)
