@@ -162,7 +162,8 @@ fn vectors_are_loaded_and_stored(rt: HostRuntime) -> Result<(), Fail> {
         assert_eq!(rt; machine.step(), Turn::Next);
     }
     let written = [
-        1, 2, 3, 4, 5, 6, 7, 8, 9, 10, 11, 12, 13, 14, 15, 16, 13, 14, 15, 16, 1, 0, 5, 0, 2, 0, 6, 0,
+        1, 2, 3, 4, 5, 6, 7, 8, 9, 10, 11, 12, 13, 14, 15, 16, 13, 14, 15, 16, 1, 0, 5, 0, 2, 0, 6,
+        0,
     ];
     assert_eq!(rt; machine.output(), written.as_slice());
     Ok(())
