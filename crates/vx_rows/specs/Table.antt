@@ -19,6 +19,7 @@ use Rattle.vx_rows.specs.declared.op.PermOp.{PermOp}
 use Rattle.vx_rows.specs.declared.op.PermOp.TheVariants.{VrgatherVv, VrgatherVx, VrgatherVi, Vrgatherei16Vv, VslideupVx, VslideupVi, VslidedownVx, VslidedownVi, Vslide1upVx, Vslide1downVx, VmvSX, VcompressVm}
 use Rattle.vx_rows.specs.declared.op.MemoryOp.{MemoryOp}
 use Rattle.vx_rows.specs.declared.op.MemoryOp.TheVariants.{Vle8, Vle16, Vle32, Vle64, Vse8, Vse16, Vse32, Vse64, Vlre8, Vlre16, Vlre32, Vlre64, Vsr, Vlm, Vsm, Vle8ff, Vle16ff, Vle32ff, Vle64ff, Vluxei8, Vluxei16, Vluxei32, Vluxei64, Vsuxei8, Vsuxei16, Vsuxei32, Vsuxei64, Vlse8, Vlse16, Vlse32, Vlse64, Vsse8, Vsse16, Vsse32, Vsse64, Vloxei8, Vloxei16, Vloxei32, Vloxei64, Vsoxei8, Vsoxei16, Vsoxei32, Vsoxei64}
+use Rattle.vx_rows.specs.declared.line.Line as declared
 use Rattle.vx_rows.specs.declared.row.Class.{Class}
 use Rattle.vx_rows.specs.declared.row.Row.{Row}
 use Rattle.vx_rows.specs.declared.row.Shape.{Shape}
@@ -46,6 +47,10 @@ shape_of op = (line_of op).shape
 -- how the flat machine goes on at an operation
 abbrev pub class_of : Op → Class
 class_of op = (line_of op).class
+
+-- what the code's line of an operation says
+abbrev pub kept_line : Op → declared.Line
+kept_line op = record { bits = bits_of op; shape = shape_of op; class = class_of op }
 
 -- the bytes of an operation's mnemonic in a row with this field nf, which plays no part but in a vector load or store
 abbrev pub mnemonic : Op → (nf : ℕ) → List ℕ

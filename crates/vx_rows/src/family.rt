@@ -170,9 +170,8 @@ pub struct Operands {
 
 /// The families, one line each: the unit, and the operands.
 macro_rules! families {
-    ($then:ident, $family:expr) => {
+    ($then:ident) => {
         $then! {
-            $family;
             Vadd = Arithmetic, Single, Single, Single;
             Vsub = Arithmetic, Single, Single, Single;
             Vrsub = Arithmetic, Single, Single, Single;
@@ -290,38 +289,38 @@ macro_rules! families {
     };
 }
 
-macro_rules! match_unit {
-    ($family:expr; $($name:ident = $unit:ident, $destination:ident, $vs2:ident, $vs1:ident;)*) => {
-        match $family {
-            $(Family::$name => Unit::$unit,)*
-        }
+macro_rules! units {
+    ($($name:ident = $unit:ident, $destination:ident, $vs2:ident, $vs1:ident;)*) => {
+        [$(Unit::$unit),*]
     };
 }
 
-macro_rules! match_operands {
-    ($family:expr; $($name:ident = $unit:ident, $destination:ident, $vs2:ident, $vs1:ident;)*) => {
-        match $family {
-            $(Family::$name => Operands {
-                destination: Operand::$destination,
-                vs2: Operand::$vs2,
-                vs1: Operand::$vs1,
-            },)*
-        }
+macro_rules! operands {
+    ($($name:ident = $unit:ident, $destination:ident, $vs2:ident, $vs1:ident;)*) => {
+        [$(Operands {
+            destination: Operand::$destination,
+            vs2: Operand::$vs2,
+            vs1: Operand::$vs1,
+        }),*]
     };
 }
+
+static UNITS: [Unit; 113] = families!(units);
+
+static OPERANDS: [Operands; 113] = families!(operands);
 
 impl Family {
     /// The unit that executes it.
     pub fn unit(self) -> Unit
         ensures { result ≡ unit_of self }
     {
-        families!(match_unit, self)
+        UNITS[self as usize]
     }
 
     /// Its operands.
     pub fn operands(self) -> Operands
         ensures { result ≡ operands_of self }
     {
-        families!(match_operands, self)
+        OPERANDS[self as usize]
     }
 }

@@ -3,7 +3,7 @@
 use crate::row::{Class, Shape};
 
 /// What the table says of an operation: its fixed bits, but for those of the field nf, its shape and its class.
-#[derive(Clone, Copy, PartialEq, Eq, Debug)]
+#[derive(Clone, Copy)]
 pub(crate) struct Line {
     pub(crate) bits: u32,
     pub(crate) shape: Shape,
@@ -240,12 +240,10 @@ macro_rules! name {
     ($form:ident($funct6:expr, $vm:ident, $name:literal, $family:ident)) => { $name };
 }
 
-/// The name of an operation, by a `match` on it.
-macro_rules! name_by_op {
-    (($value:ident $kind:ident); $($op:ident = $form:ident $parts:tt,)*) => {
-        match $value {
-            $($kind::$op => name!($form $parts),)*
-        }
+/// The names of a table, in its order.
+macro_rules! name_lines {
+    ($($op:ident = $form:ident $parts:tt,)*) => {
+        [$(name!($form $parts)),*]
     };
 }
 
@@ -327,7 +325,7 @@ pub(crate) use lines_of_both;
 pub(crate) use mask;
 pub(crate) use memory;
 pub(crate) use name;
-pub(crate) use name_by_op;
+pub(crate) use name_lines;
 pub(crate) use names;
 pub(crate) use names_of_both;
 pub(crate) use parts;

@@ -5,6 +5,7 @@ ghost use Rattle.vx_rows.specs.Table.{
   bits_of,
   shape_of,
   class_of,
+  kept_line,
   mnemonic,
   all_memory_names,
   FitsOneAtMost,
@@ -14,7 +15,7 @@ ghost use Rattle.vx_rows.specs.Table.{
 use crate::family::Family;
 use crate::line::{
     Line, addressing_bits, direction_bits, direction_class, first_mask, gather, line, lines,
-    lines_of_both, mask, memory, name, name_by_op, names, names_of_both, parts, row, rows_of_parts,
+    lines_of_both, mask, memory, name, name_lines, names, names_of_both, parts, row, rows_of_parts,
     second_mask, vector, vm_bit, vm_mask, width_number, with_whole,
 };
 use crate::lines::{
@@ -26,17 +27,31 @@ use crate::row::{Addressing, Class, Eew, First, Row, Second, Shape, Vm};
 
 static SCALAR: [Line; 71] = scalar_lines!(lines);
 
+static SCALAR_NAMES: [&'static str; 71] = scalar_lines!(name_lines);
+
 static SET: [Line; 3] = set_lines!(lines);
+
+static SET_NAMES: [&'static str; 3] = set_lines!(name_lines);
 
 static ELEM: [Line; 73] = elem_lines!(lines);
 
+static ELEM_NAMES: [&'static str; 73] = elem_lines!(name_lines);
+
 static WIDEN: [Line; 70] = widen_lines!(lines);
+
+static WIDEN_NAMES: [&'static str; 70] = widen_lines!(name_lines);
 
 static FIXED: [Line; 32] = fixed_lines!(lines);
 
+static FIXED_NAMES: [&'static str; 32] = fixed_lines!(name_lines);
+
 static MASK: [Line; 26] = mask_lines!(lines);
 
+static MASK_NAMES: [&'static str; 26] = mask_lines!(name_lines);
+
 static PERM: [Line; 12] = perm_lines!(lines);
+
+static PERM_NAMES: [&'static str; 12] = perm_lines!(name_lines);
 
 static MEMORY: [Line; 43] = memory_lines!(with_whole, lines_of_both);
 
@@ -110,9 +125,7 @@ pub fn name_of(op: Op, nf: u8) -> &'static str
 
 /// The line of an operation.
 fn line_of(op: Op) -> &'static Line
-    ensures bits { result.now.bits ≡ bits_of op }
-    ensures shape { result.now.shape ≡ shape_of op }
-    ensures class { result.now.class ≡ class_of op }
+    ensures { result.now ≡ kept_line op }
 {
     match op {
         Op::Scalar(op) => scalar_line(op),
@@ -127,65 +140,49 @@ fn line_of(op: Op) -> &'static Line
 }
 
 fn scalar_line(op: ScalarOp) -> &'static Line
-    ensures bits { result.now.bits ≡ bits_of (Op.Scalar op) }
-    ensures shape { result.now.shape ≡ shape_of (Op.Scalar op) }
-    ensures class { result.now.class ≡ class_of (Op.Scalar op) }
+    ensures { result.now ≡ kept_line (Op.Scalar op) }
 {
     &SCALAR[op as usize]
 }
 
 fn set_line(op: SetOp) -> &'static Line
-    ensures bits { result.now.bits ≡ bits_of (Op.Set op) }
-    ensures shape { result.now.shape ≡ shape_of (Op.Set op) }
-    ensures class { result.now.class ≡ class_of (Op.Set op) }
+    ensures { result.now ≡ kept_line (Op.Set op) }
 {
     &SET[op as usize]
 }
 
 fn elem_line(op: ElemOp) -> &'static Line
-    ensures bits { result.now.bits ≡ bits_of (Op.Elem op) }
-    ensures shape { result.now.shape ≡ shape_of (Op.Elem op) }
-    ensures class { result.now.class ≡ class_of (Op.Elem op) }
+    ensures { result.now ≡ kept_line (Op.Elem op) }
 {
     &ELEM[op as usize]
 }
 
 fn widen_line(op: WidenOp) -> &'static Line
-    ensures bits { result.now.bits ≡ bits_of (Op.Widen op) }
-    ensures shape { result.now.shape ≡ shape_of (Op.Widen op) }
-    ensures class { result.now.class ≡ class_of (Op.Widen op) }
+    ensures { result.now ≡ kept_line (Op.Widen op) }
 {
     &WIDEN[op as usize]
 }
 
 fn fixed_line(op: FixedOp) -> &'static Line
-    ensures bits { result.now.bits ≡ bits_of (Op.Fixed op) }
-    ensures shape { result.now.shape ≡ shape_of (Op.Fixed op) }
-    ensures class { result.now.class ≡ class_of (Op.Fixed op) }
+    ensures { result.now ≡ kept_line (Op.Fixed op) }
 {
     &FIXED[op as usize]
 }
 
 fn mask_line(op: MaskOp) -> &'static Line
-    ensures bits { result.now.bits ≡ bits_of (Op.Mask op) }
-    ensures shape { result.now.shape ≡ shape_of (Op.Mask op) }
-    ensures class { result.now.class ≡ class_of (Op.Mask op) }
+    ensures { result.now ≡ kept_line (Op.Mask op) }
 {
     &MASK[op as usize]
 }
 
 fn perm_line(op: PermOp) -> &'static Line
-    ensures bits { result.now.bits ≡ bits_of (Op.Perm op) }
-    ensures shape { result.now.shape ≡ shape_of (Op.Perm op) }
-    ensures class { result.now.class ≡ class_of (Op.Perm op) }
+    ensures { result.now ≡ kept_line (Op.Perm op) }
 {
     &PERM[op as usize]
 }
 
 fn memory_line(op: MemoryOp) -> &'static Line
-    ensures bits { result.now.bits ≡ bits_of (Op.Memory op) }
-    ensures shape { result.now.shape ≡ shape_of (Op.Memory op) }
-    ensures class { result.now.class ≡ class_of (Op.Memory op) }
+    ensures { result.now ≡ kept_line (Op.Memory op) }
 {
     &MEMORY[op as usize]
 }
@@ -193,43 +190,43 @@ fn memory_line(op: MemoryOp) -> &'static Line
 fn scalar_name(op: ScalarOp) -> &'static str
     ensures { (nf : ℕ) → result.now ≡ mnemonic (Op.Scalar op) nf }
 {
-    scalar_lines!(name_by_op, (op ScalarOp))
+    SCALAR_NAMES[op as usize]
 }
 
 fn set_name(op: SetOp) -> &'static str
     ensures { (nf : ℕ) → result.now ≡ mnemonic (Op.Set op) nf }
 {
-    set_lines!(name_by_op, (op SetOp))
+    SET_NAMES[op as usize]
 }
 
 fn elem_name(op: ElemOp) -> &'static str
     ensures { (nf : ℕ) → result.now ≡ mnemonic (Op.Elem op) nf }
 {
-    elem_lines!(name_by_op, (op ElemOp))
+    ELEM_NAMES[op as usize]
 }
 
 fn widen_name(op: WidenOp) -> &'static str
     ensures { (nf : ℕ) → result.now ≡ mnemonic (Op.Widen op) nf }
 {
-    widen_lines!(name_by_op, (op WidenOp))
+    WIDEN_NAMES[op as usize]
 }
 
 fn fixed_name(op: FixedOp) -> &'static str
     ensures { (nf : ℕ) → result.now ≡ mnemonic (Op.Fixed op) nf }
 {
-    fixed_lines!(name_by_op, (op FixedOp))
+    FIXED_NAMES[op as usize]
 }
 
 fn mask_name(op: MaskOp) -> &'static str
     ensures { (nf : ℕ) → result.now ≡ mnemonic (Op.Mask op) nf }
 {
-    mask_lines!(name_by_op, (op MaskOp))
+    MASK_NAMES[op as usize]
 }
 
 fn perm_name(op: PermOp) -> &'static str
     ensures { (nf : ℕ) → result.now ≡ mnemonic (Op.Perm op) nf }
 {
-    perm_lines!(name_by_op, (op PermOp))
+    PERM_NAMES[op as usize]
 }
 
 /// The names of the vector loads and stores, by the field nf.
