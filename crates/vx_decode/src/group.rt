@@ -42,7 +42,7 @@ pub struct Group {
 }
 
 /// What an instruction writes and reads, but for the mask in `v0`.
-#[derive(Clone, Copy, PartialEq, Eq, Debug)]
+#[derive(Clone, Copy)]
 pub(crate) struct Groups {
     /// Its operation's class.
     pub(crate) class: Class,
@@ -55,9 +55,9 @@ pub(crate) struct Groups {
 }
 
 impl Group {
-    /// The registers of one field.
+    /// The registers of one field: EMUL, and one where it is less.
     #[inline(always)]
-    pub(crate) fn registers(self) -> u32
+    pub fn registers(self) -> u32
         ensures is { result ≡ registers_of_group self.emul_eighths }
         ensures positive { 1 ≤ result }
         ensures in_range { result ≤ 0x1fffffff }
@@ -200,9 +200,10 @@ fn operand_group(operand: Operand, at: &Setting, register: u8) -> Option<Group>
     }
 }
 
-/// EEW of an operand.
+/// EEW of an operand, the width of its elements in bits, where SEW is that of the configuration: 1 for a mask, 0 where there is
+/// no register (RISC-V "V" 1.0, sections 5.2 and 11.1).
 #[inline(always)]
-fn width_of(operand: Operand, sew: u32) -> u32
+pub fn width_of(operand: Operand, sew: u32) -> u32
     requires { sew ≤ 64 }
     ensures is { result ≡ width_of operand sew }
     ensures in_range { result ≤ 128 }
@@ -244,11 +245,12 @@ fn emul_eighths(at: &Setting, width: u32) -> u32
     width * at.lmul_eighths() / at.sew()
 }
 
-/// The width that a vector load or store encodes.
+/// The width that a vector load or store encodes, in bits (RISC-V "V" 1.0, section 7.3).
 #[inline(always)]
-fn bits_of_eew(width: Eew) -> u32
+pub fn bits_of_eew(width: Eew) -> u32
     ensures is { result ≡ bits_of_eew width }
-    ensures in_range { result ≤ 64 }
+    ensures least { 8 ≤ result }
+    ensures most { result ≤ 64 }
 {
     match width {
         Eew::E8 => 8,
@@ -273,9 +275,9 @@ fn group_at(at: &Setting, register: u8, width: u32, fields: u32) -> Group
     }
 }
 
-/// What a vector load or store moves.
+/// What a vector load or store moves: the group that a load writes or a store reads (RISC-V "V" 1.0, sections 7.3 to 7.9).
 #[inline(always)]
-fn moved(addressing: Addressing, width: Eew, i: &Instr, at: &Setting) -> Group
+pub fn moved(addressing: Addressing, width: Eew, i: &Instr, at: &Setting) -> Group
     ensures { result ≡ moved addressing width i.now (view_of at.now) }
 {
     let fields = u32::from(i.nf) + 1;

@@ -4,7 +4,8 @@
 //! It stands on `vx_rows` and, for the setting, on `vx_vstate`. To the crates above it gives `Instr` and, as a definition
 //! and as `decode`, the instruction that a word means; `KnownWords`, which decodes a word once; `encode`, its inverse both
 //! ways, and the law that the instruction of a word is valid; and, as definitions, the groups of registers that a vector
-//! instruction's operands are and the rules by which it is illegal, with `legal`, which is exact.
+//! instruction's operands are and the rules by which it is illegal, with `legal`, which is exact, and `moved`, `width_of` and
+//! `bits_of_eew`, which tell what of such a group.
 #![tactic(auto)]
 
 mod decoder;
@@ -22,7 +23,7 @@ mod vector;
 
 pub use decoder::{decode, decoded_is_valid};
 pub use encoder::encode;
-pub use group::Group;
+pub use group::{Group, bits_of_eew, moved, width_of};
 pub use instr::Instr;
 pub use known::Known;
 pub use known_words::KnownWords;

@@ -1,9 +1,11 @@
 ghost use Rattle.std.specs.Prelude.{◌≡◌};
-ghost use Rattle.vx_rows.specs.Families.{unit_of, operands_of};
+ghost use Rattle.vx_rows.specs.Families.{family_line, unit_of, operands_of};
+
+use std::fmt;
 
 /// What a vector arithmetic row computes, apart from the form of its operands: `vadd.vv`, `vadd.vx` and `vadd.vi` are one
 /// family (RISC-V "V" 1.0, sections 11 to 16).
-#[derive(Clone, Copy, PartialEq, Eq, Debug)]
+#[derive(Clone, Copy, PartialEq, Eq)]
 pub enum Family {
     Vadd,
     Vsub,
@@ -289,38 +291,62 @@ macro_rules! families {
     };
 }
 
-macro_rules! units {
-    ($($name:ident = $unit:ident, $destination:ident, $vs2:ident, $vs1:ident;)*) => {
-        [$(Unit::$unit),*]
-    };
+/// What the table says of a family.
+#[derive(Clone, Copy)]
+struct FamilyLine {
+    unit: Unit,
+    operands: Operands,
 }
 
-macro_rules! operands {
+macro_rules! family_lines {
     ($($name:ident = $unit:ident, $destination:ident, $vs2:ident, $vs1:ident;)*) => {
-        [$(Operands {
-            destination: Operand::$destination,
-            vs2: Operand::$vs2,
-            vs1: Operand::$vs1,
+        [$(FamilyLine {
+            unit: Unit::$unit,
+            operands: Operands {
+                destination: Operand::$destination,
+                vs2: Operand::$vs2,
+                vs1: Operand::$vs1,
+            },
         }),*]
     };
 }
 
-static UNITS: [Unit; 113] = families!(units);
+macro_rules! family_names {
+    ($($name:ident = $unit:ident, $destination:ident, $vs2:ident, $vs1:ident;)*) => {
+        [$(stringify!($name)),*]
+    };
+}
 
-static OPERANDS: [Operands; 113] = families!(operands);
+static NAMES: [&'static str; 113] = families!(family_names);
+
+static LINES: [FamilyLine; 113] = families!(family_lines);
+
+impl fmt::Debug for Family {
+    fn fmt<W: fmt::Write>(&self, f: &mut fmt::Formatter<W>) -> fmt::Result {
+        f.write_str(NAMES[*self as usize])
+    }
+}
 
 impl Family {
     /// The unit that executes it.
     pub fn unit(self) -> Unit
         ensures { result ≡ unit_of self }
     {
-        UNITS[self as usize]
+        self.line().unit
     }
 
     /// Its operands.
     pub fn operands(self) -> Operands
         ensures { result ≡ operands_of self }
     {
-        OPERANDS[self as usize]
+        self.line().operands
+    }
+
+    /// Its line of the table.
+    #[inline(always)]
+    fn line(self) -> &'static FamilyLine
+        ensures { result.now ≡ family_line self }
+    {
+        &LINES[self as usize]
     }
 }

@@ -7,6 +7,7 @@
 //! for vector arithmetic its family, with the unit and the operands of each.
 #![tactic(auto)]
 
+mod debug;
 mod family;
 mod layout;
 mod line;

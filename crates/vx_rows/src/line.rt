@@ -247,6 +247,19 @@ macro_rules! name_lines {
     };
 }
 
+/// The variants of a table's operations, in its order.
+macro_rules! variants {
+    ($($op:ident = $form:ident $parts:tt,)*) => {
+        [$(stringify!($op)),*]
+    };
+}
+
+macro_rules! variants_of_both {
+    ([$($op:ident = $form:ident $parts:tt,)*]; $($whole_op:ident = $whole_form:ident $whole_parts:tt,)*) => {
+        [$(stringify!($op),)* $(stringify!($whole_op),)*]
+    };
+}
+
 /// The names of a vector load or store by its field nf.
 macro_rules! names {
     (segments($direction:ident, $addressing:ident, $width:ident, $stem:literal, $tail:literal)) => {
@@ -332,6 +345,8 @@ pub(crate) use parts;
 pub(crate) use row;
 pub(crate) use rows_of_parts;
 pub(crate) use second_mask;
+pub(crate) use variants;
+pub(crate) use variants_of_both;
 pub(crate) use vector;
 pub(crate) use vm_bit;
 pub(crate) use vm_mask;

@@ -20,7 +20,7 @@ pub enum Op {
 }
 
 /// The operations of RV64I, M and Zicsr (RISC-V Unprivileged ISA 20191213, chapters 2, 5, 7 and 9).
-#[derive(Clone, Copy, PartialEq, Eq, Debug)]
+#[derive(Clone, Copy, PartialEq, Eq)]
 pub enum ScalarOp {
     Lui,
     Auipc,
@@ -105,7 +105,7 @@ pub enum SetOp {
 
 /// Vector arithmetic whose elements all have one width, extensions and whole-register moves (RISC-V "V" 1.0, sections
 /// 11 and 16.6).
-#[derive(Clone, Copy, PartialEq, Eq, Debug)]
+#[derive(Clone, Copy, PartialEq, Eq)]
 pub enum ElemOp {
     VaddVv,
     VaddVx,
@@ -183,7 +183,7 @@ pub enum ElemOp {
 }
 
 /// Vector arithmetic that widens or narrows, adds or subtracts with a carry, or compares (RISC-V "V" 1.0, section 11).
-#[derive(Clone, Copy, PartialEq, Eq, Debug)]
+#[derive(Clone, Copy, PartialEq, Eq)]
 pub enum WidenOp {
     VadcVvm,
     VadcVxm,
@@ -258,7 +258,7 @@ pub enum WidenOp {
 }
 
 /// Vector arithmetic with a fixed point (RISC-V "V" 1.0, section 12).
-#[derive(Clone, Copy, PartialEq, Eq, Debug)]
+#[derive(Clone, Copy, PartialEq, Eq)]
 pub enum FixedOp {
     VsadduVv,
     VsadduVx,
@@ -295,7 +295,7 @@ pub enum FixedOp {
 }
 
 /// Reductions, masks, and the move of an element to an integer register (RISC-V "V" 1.0, sections 14, 15 and 16.1).
-#[derive(Clone, Copy, PartialEq, Eq, Debug)]
+#[derive(Clone, Copy, PartialEq, Eq)]
 pub enum MaskOp {
     VredsumVs,
     VredandVs,
@@ -343,7 +343,7 @@ pub enum PermOp {
 }
 
 /// Vector loads and stores, of any number of fields or registers (RISC-V "V" 1.0, section 7).
-#[derive(Clone, Copy, PartialEq, Eq, Debug)]
+#[derive(Clone, Copy, PartialEq, Eq)]
 pub enum MemoryOp {
     Vle8,
     Vle16,
