@@ -1,5 +1,4 @@
 ghost use Rattle.std.specs.Prelude.{◌≡◌, ℕ, ◌||◌, IfOk, OnOk};
-ghost use Rattle.vx_base.specs.declared.perm.PageEntry.{PageEntry};
 ghost use Rattle.vx_elf.specs.Segments.{IsSegment, IsSegmentList};
 ghost use Rattle.vx_image.specs.Building.{is_among, AreMet, IsSpan, ArePlaces};
 ghost use Rattle.vx_image.specs.Kept.{IsRising};
