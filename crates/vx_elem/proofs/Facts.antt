@@ -5,13 +5,10 @@ use Rattle.std.proofs.lemmas.Bool.{false≢true, and_parts, or_cases, eqb-true}
 use Rattle.vx_bits.specs.Width.{is_width}
 use Rattle.vx_rows.specs.Families.{operands_of}
 use Rattle.vx_rows.specs.declared.family.Family.{Family}
-use Rattle.vx_rows.specs.declared.family.Family.TheVariants.{Vadd, VmvV, Vmv1r, Vmv2r, Vmv4r, Vmv8r, VzextVf8, VsextVf8, VzextVf4, VsextVf4, VzextVf2, VsextVf2}
+use Rattle.vx_rows.specs.declared.family.Family.TheVariants.{Vadd, Vmv1r, Vmv2r, Vmv4r, Vmv8r, VzextVf8, VsextVf8, VzextVf4, VsextVf4, VzextVf2, VsextVf2}
 use Rattle.vx_rows.specs.declared.family.Operand.{Operand}
 use Rattle.vx_rows.specs.declared.family.Operand.TheVariants.{Absent}
 use Rattle.vx_rows.specs.declared.family.Operands.{Operands}
-use Rattle.vx_rows.specs.declared.op.Op.{Op}
-use Rattle.vx_rows.specs.declared.op.Op.TheVariants.{Elem}
-use Rattle.vx_rows.specs.declared.op.ElemOp.{ElemOp}
 use Rattle.vx_rows.specs.declared.row.First.{First}
 use Rattle.vx_rows.specs.declared.row.First.TheVariants.{Vector, Fixed}
 use Rattle.vx_rows.specs.declared.row.Vm.{Vm}
@@ -20,7 +17,7 @@ use Rattle.vx_vstate.specs.Registers.{is_element_width}
 use Rattle.vx_vector.specs.Laws.{is_absent}
 use Rattle.vx_vector.specs.Rules.{rule_of}
 use Rattle.vx_operands.specs.Lanes.{FillsPart, is_each, is_single, is_even, is_group, are_groups, is_whole}
-use Rattle.vx_elem.specs.Kinds.{is_elem, is_plain, is_copy, is_extension, is_other}
+use Rattle.vx_elem.specs.Kinds.{is_plain, is_copy, is_extension, is_other}
 
 -- ---- operands of SEW
 
@@ -69,20 +66,6 @@ extension_groups VzextVf2 other v h k = absurd (false≢true h)
 extension_groups VsextVf2 Fixed v h k = refl
 extension_groups VsextVf2 other v h k = absurd (false≢true h)
 extension_groups other first v h k = absurd (false≢true k)
-
-pub no_other : (f : Family) (first : First) (v : Vm) → IsTrue (is_other f first v) → (f ≡ VmvV → ⊥) → (f ≡ Vmv1r → ⊥) → (f ≡ Vmv2r → ⊥) → (f ≡ Vmv4r → ⊥) → (f ≡ Vmv8r → ⊥) → (f ≡ VzextVf8 → ⊥) → (f ≡ VsextVf8 → ⊥) → (f ≡ VzextVf4 → ⊥) → (f ≡ VsextVf4 → ⊥) → (f ≡ VzextVf2 → ⊥) → (f ≡ VsextVf2 → ⊥) → ⊥
-no_other VmvV first v h n _ _ _ _ _ _ _ _ _ _ = n refl
-no_other Vmv1r first v h _ n _ _ _ _ _ _ _ _ _ = n refl
-no_other Vmv2r first v h _ _ n _ _ _ _ _ _ _ _ = n refl
-no_other Vmv4r first v h _ _ _ n _ _ _ _ _ _ _ = n refl
-no_other Vmv8r first v h _ _ _ _ n _ _ _ _ _ _ = n refl
-no_other VzextVf8 first v h _ _ _ _ _ n _ _ _ _ _ = n refl
-no_other VsextVf8 first v h _ _ _ _ _ _ n _ _ _ _ = n refl
-no_other VzextVf4 first v h _ _ _ _ _ _ _ n _ _ _ = n refl
-no_other VsextVf4 first v h _ _ _ _ _ _ _ _ n _ _ = n refl
-no_other VzextVf2 first v h _ _ _ _ _ _ _ _ _ n _ = n refl
-no_other VsextVf2 first v h _ _ _ _ _ _ _ _ _ _ n = n refl
-no_other other first v h _ _ _ _ _ _ _ _ _ _ _ = absurd (false≢true h)
 
 -- ---- widths
 
@@ -155,12 +138,6 @@ vs2_group other o h = (and_parts (is_group o.destination) (is_group o.vs2) h).1
 
 pub even_some : (d : ℕ) → IsTrue (is_width d) → Fits d d
 even_some d h = wide_fits d d h h (omega arith)
-
--- ---- operations
-
-pub no_elem : (op : Op) → IsTrue (is_elem op) → ((x : ElemOp) → op ≡ Elem x → ⊥) → ⊥
-no_elem (Elem x) h n = n x refl
-no_elem other h n = absurd (false≢true h)
 
 -- elements of a width, each extended from another, are as many as a word holds
 pub packed : (a d : ℕ) → Fits a d → IsTrue (is_width d) → IsPacking (record { count = 64 / d; width = d; a = a; b = d })

@@ -37,8 +37,8 @@ use Rattle.vx_flat.specs.declared.upcoming.Upcoming.TheVariants.{Denied, Illegal
 abbrev pub exchange_at : Flat → Instr → Option Exchange
 exchange_at s i = exchange s.v (control_number i) (change_in i.op) i.rs1 (operand_of i s.x)
 
--- the rows that the machine executes. Those of vectors, and of control registers, which are theirs, it executes where they are
--- enabled
+-- a class of instructions that a hart executes: all of RV64IM, and those of vectors and of their control registers where vector
+-- instructions are enabled
 abbrev pub is_executed : (enabled : Bool) → Class → Bool
 is_executed enabled class.Arithmetic = true
 is_executed enabled class.Multiply = true

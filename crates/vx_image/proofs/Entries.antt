@@ -1,13 +1,15 @@
 -- The entries of the mapped pages below a number.
-use Rattle.std.proofs.Common.{◌≡◌, ℕ, zero, suc, ◌+◌, ◌-◌, ◌<◌, ◌≤◌, true, false, leb, List, [], ◌∷◌, ◌++◌, Option, Some, None, refl, sym, ap, ◌∙◌, append-nil, append_assoc, add-one, add-zero, arith}
+use Rattle.std.proofs.Common.{◌≡◌, ℕ, zero, suc, ◌+◌, ◌<◌, ◌≤◌, true, false, leb, inl, inr, List, map, [], ◌∷◌, ◌++◌, Option, Some, None, refl, sym, ap, ◌∙◌, append-nil, append_assoc, add-zero, arith}
 use Rattle.std.proofs.Math.Nat.{add-suc}
 use Rattle.std.specs.List.{list_any}
 use Rattle.std.specs.Option.{option_to_list}
+use Rattle.std.proofs.lemmas.Bool.{cases_Bool}
+use Rattle.std.proofs.lemmas.List.{map-append}
 use Rattle.std.proofs.lemmas.Bool.Decides.{nat_tests}
 use Rattle.vx_base.specs.declared.perm.PageEntry.{PageEntry}
 use Rattle.vx_elf.specs.declared.segment.Segment.{Segment}
 use Rattle.vx_image.specs.Mapping.{meets_page, stack_page}
-use Rattle.vx_image.specs.Building.{entry_of_stack, entry_of_segments, mapped_entry, entries_below, stack_entries, IsNextPage}
+use Rattle.vx_image.specs.Building.{entry_of_stack, entry_of_segments, mapped_entry, is_met, numbers_below, entries_below, stack_entries}
 
 -- the page of a number, by what it is
 pub at_stack : (segments : List Segment) (number : ℕ) → stack_page ≤ number → mapped_entry segments number ≡ Some (entry_of_stack number)
@@ -28,50 +30,28 @@ at_nothing segments number low unmet =
     let no : leb stack_page number ≡ false = grind (arith, nat_tests) in
     rw (no, unmet) refl
 
-pub entries_none : (segments : List Segment) → entries_below segments 0 ≡ []
-unfolding entries_below
-entries_none segments = refl
-
 -- one page more
 more : (segments : List Segment) (number : ℕ) → entries_below segments (suc number) ≡ entries_below segments number ++ option_to_list (mapped_entry segments number)
 unfolding entries_below
 more segments number = refl
 
--- a page that a segment meets
-met_more : (segments : List Segment) (number : ℕ) → number < stack_page → list_any (meets_page number) segments ≡ true → entries_below segments (number + 1) ≡ entries_below segments number ++ entry_of_segments segments number ∷ []
-met_more segments number low met =
-    ap (entries_below segments) (add-one number)
-    ∙ more segments number
-    ∙ ap (λ (o : Option PageEntry). entries_below segments number ++ option_to_list o) (at_segments segments number low met)
-
--- so many pages that none meets
-skipped : (segments : List Segment) (start count : ℕ) → start + count ≤ stack_page → ((number : ℕ) → start ≤ number → number < start + count → list_any (meets_page number) segments ≡ false) → entries_below segments (start + count) ≡ entries_below segments start
-skipped segments start zero within unmet = ap (entries_below segments) (add-zero start)
-skipped segments start (suc count) within unmet =
-    ap (entries_below segments) (add-suc start count)
-    ∙ more segments (start + count)
-    ∙ ap (λ (o : Option PageEntry). entries_below segments (start + count) ++ option_to_list o) (at_nothing segments (start + count) (omega arith) (unmet (start + count) (omega arith) (omega arith)))
-    ∙ append-nil (entries_below segments (start + count))
-    ∙ skipped segments start count (omega arith) (λ number above below. unmet number above (omega arith))
-
--- the entries below the first page that is met
-pub first_entries : (segments : List Segment) (page : ℕ) → IsNextPage segments 0 page → [] ≡ entries_below segments page
-first_entries segments page next =
-    let whole : 0 + page ≡ page = omega arith in
-    sym (entries_none segments)
-    ∙ sym (skipped segments 0 page (omega (arith, next.within)) (λ number above below. next.before number above (omega arith)))
-    ∙ ap (entries_below segments) whole
-
--- the entries below the next page that is met, after one that is
-pub next_entries : (segments : List Segment) (page after : ℕ) (before now : List PageEntry) → page < stack_page → list_any (meets_page page) segments ≡ true → before ≡ entries_below segments page → now ≡ before ++ entry_of_segments segments page ∷ [] → IsNextPage segments (page + 1) after → now ≡ entries_below segments after
-next_entries segments page after before now low met same pushed next =
-    let count = after - (page + 1) in
-    let there : page + 1 + count ≡ after = omega (arith, next.above) in
-    pushed
-    ∙ ap (λ (es : List PageEntry). es ++ entry_of_segments segments page ∷ []) same
-    ∙ sym (met_more segments page low met)
-    ∙ sym (skipped segments (page + 1) count (omega (arith, next.within)) (λ number above below. next.before number above (omega arith)))
-    ∙ ap (entries_below segments) there
+-- the entries below the stack's are those of the pages that the segments meet
+pub met_entries : (segments : List Segment) (number : ℕ) → number ≤ stack_page → entries_below segments number ≡ map (entry_of_segments segments) (numbers_below (is_met segments) number)
+unfolding entries_below numbers_below
+met_entries segments zero low = refl
+met_entries segments (suc number) low =
+    let before = met_entries segments number (omega arith) in
+    elim (cases_Bool (is_met segments number)) [
+      | inl met ↦
+          rw (at_segments segments number (omega arith) met, met)
+          (ap (λ (es : List PageEntry). es ++ entry_of_segments segments number ∷ []) before
+          ∙ sym (map-append (entry_of_segments segments) (numbers_below (is_met segments) number) (number ∷ [])))
+      | inr unmet ↦
+          rw (at_nothing segments number (omega arith) unmet, unmet)
+          (ap (λ (es : List PageEntry). es ++ []) before
+          ∙ append-nil (map (entry_of_segments segments) (numbers_below (is_met segments) number))
+          ∙ sym (ap (map (entry_of_segments segments)) (append-nil (numbers_below (is_met segments) number))))
+    ]
 
 -- the pages of the stack behind those below it
 stacked : (segments : List Segment) (base count : ℕ) → base ≡ stack_page → entries_below segments (base + count) ≡ entries_below segments base ++ stack_entries count

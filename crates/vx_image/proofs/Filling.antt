@@ -1,14 +1,16 @@
 -- The bytes of a page, segment by segment.
-use Rattle.std.proofs.Common.{◌≡◌, ℕ, zero, suc, ◌+◌, ◌-◌, ◌<◌, ◌≤◌, Bool, true, false, ◌&&◌, leb, ltb, if◌then◌else◌, inl, inr, List, [], ◌∷◌, ◌++◌, length, take, get_or, replicate, find, Option, Some, None, refl, sym, ap, ◌∙◌, add-zero, arith}
+use Rattle.std.proofs.Common.{◌≡◌, ℕ, zero, suc, ◌+◌, ◌-◌, ◌<◌, ◌≤◌, Bool, true, false, ◌&&◌, leb, ltb, if◌then◌else◌, inl, inr, List, [], ◌∷◌, ◌++◌, length, take, drop, get_or, replicate, find, Option, Some, None, refl, sym, ap, ◌∙◌, ◌*◌, length-drop, add-zero, arith}
 use Rattle.std.specs.Option.{option_map_or, option_or}
 use Rattle.std.proofs.lemmas.Bool.{cases_Bool, false≢true}
 use Rattle.std.proofs.lemmas.Bool.Decides.{nat_tests}
-use Rattle.std.proofs.lemmas.List.{take_more, get_or-take, get_or_past, get_or_default, length-take, take_all}
+use Rattle.std.proofs.lemmas.List.{take_more, get_or-take, get_or_past, get_or_default, length-take, length-take-le, get_or-drop, get_or-replicate, length-replicate, take-append-drop, take_all}
 use Rattle.std.proofs.lemmas.List.Folds.{find-append}
 use Rattle.vx_elf.specs.declared.segment.Segment.{Segment}
 use Rattle.vx_elf.specs.Segments.{ranges_meet, segments_end, IsSegment, IsSegmentList}
 use Rattle.vx_image.specs.Mapping.{has_address, segment_byte, byte_of, bytes_from}
-use Rattle.vx_image.specs.Building.{has_byte, IsLaid, IsZero}
+use Rattle.vx_base.specs.declared.perm.PageEntry.{PageEntry}
+use Rattle.vx_image.specs.Kept.{entry_at}
+use Rattle.vx_image.specs.Building.{has_byte, IsLaidOn, bytes_of_entries}
 
 -- where no element passes, nothing is found
 find_none : (p : Segment → Bool) (xs : List Segment) → ((k : ℕ) (d : Segment) → k < length xs → p (get_or xs k d) ≡ false) → find p xs ≡ None
@@ -89,30 +91,61 @@ unfolding bytes_from
 length-bytes_from segments address zero = refl
 length-bytes_from segments address (suc n) = ap suc (length-bytes_from segments (address + 1) n)
 
--- a page laid on zeros with so many of the segments
-pub record IsFilled (page : List ℕ) (segments : List Segment) (i address long : ℕ) : Type 0 where
-  pub size : length page ≡ long
-  pub each : (j : ℕ) → j < long → get_or page j 0 ≡ byte_of (take i segments) (address + j)
+-- a byte of a page with those of a segment laid on
+abbrev pub laid_byte : List PageEntry → Segment → List ℕ → ℕ → ℕ → ℕ
+laid_byte entries segment old k j =
+    if has_byte (4096 * (entry_at entries k).page + j) segment then segment_byte (4096 * (entry_at entries k).page + j) segment
+    else get_or old (4096 * k + j) 0
 
-pub filled_none : (page : List ℕ) (segments : List Segment) (address : ℕ) → IsZero page → IsFilled page segments 0 address (length page)
-filled_none page segments address blank = record {
-  size = refl;
-  each = λ j below. blank j below ∙ sym (byte_none segments (address + j));
+-- the bytes of pages are those of so many of the segments
+pub record IsFilled (bytes : List ℕ) (entries : List PageEntry) (segments : List Segment) (i : ℕ) : Type 0 where
+  pub size : length bytes ≡ 4096 * length entries
+  pub each : (k j : ℕ) → k < length entries → j < 4096 → get_or bytes (4096 * k + j) 0 ≡ byte_of (take i segments) (4096 * (entry_at entries k).page + j)
+
+pub filled_none : (bytes : List ℕ) (entries : List PageEntry) (segments : List Segment) → bytes ≡ replicate (4096 * length entries) 0 → IsFilled bytes entries segments 0
+filled_none bytes entries segments blank = record {
+  size = ap length blank ∙ length-replicate (4096 * length entries) 0;
+  each = λ k j within below.
+      ap (λ (bs : List ℕ). get_or bs (4096 * k + j) 0) blank
+      ∙ get_or-replicate (4096 * length entries) (4096 * k + j) 0 0 (omega arith)
+      ∙ sym (byte_none segments (4096 * (entry_at entries k).page + j));
 }
 
-pub filled_more : (page new : List ℕ) (segments : List Segment) (i address long : ℕ) (segment : Segment) → IsSegmentList segments → i < length segments → segment ≡ get_or segments i segment → IsFilled page segments i address long → IsLaid page new segment address → IsFilled new segments (i + 1) address long
-filled_more page new segments i address long segment list within item filled laid = record {
+pub filled_more : (bytes new : List ℕ) (entries : List PageEntry) (segments : List Segment) (i : ℕ) (segment : Segment) → IsSegmentList segments → i < length segments → segment ≡ get_or segments i segment → IsFilled bytes entries segments i → IsLaidOn entries bytes new segment → IsFilled new entries segments (i + 1)
+filled_more bytes new entries segments i segment list within item filled laid = record {
   size = laid.size ∙ filled.size;
-  each = λ j below.
-      laid.each j (omega (arith, filled.size))
-      ∙ ap (λ (n : ℕ). if has_byte (address + j) segment then segment_byte (address + j) segment else n) (filled.each j below)
-      ∙ sym (byte_more segments list i segment within item (address + j));
+  each = λ k j inside below.
+      let address = 4096 * (entry_at entries k).page + j in
+      laid.each k j inside below
+      ∙ ap (λ (n : ℕ). if has_byte address segment then segment_byte address segment else n) (filled.each k j inside below)
+      ∙ sym (byte_more segments list i segment within item address);
 }
 
--- with all of them
-pub filled_all : (page : List ℕ) (segments : List Segment) (i address long : ℕ) → length segments ≤ i → IsFilled page segments i address long → page ≡ bytes_from segments address long
-filled_all page segments i address long done filled =
-    bytes_are segments address long page filled.size (λ j below. filled.each j below ∙ ap (λ (xs : List Segment). byte_of xs (address + j)) (take_all i segments done))
+-- pages that have the bytes of all segments, one after another
+joined_pages : (segments : List Segment) (entries : List PageEntry) (bytes : List ℕ) → length bytes ≡ 4096 * length entries → ((k j : ℕ) → k < length entries → j < 4096 → get_or bytes (4096 * k + j) 0 ≡ byte_of segments (4096 * (entry_at entries k).page + j)) → bytes ≡ bytes_of_entries segments entries
+unfolding bytes_of_entries
+joined_pages segments [] [] long each = refl
+joined_pages segments [] (x ∷ bytes) long each = absurd (omega arith)
+joined_pages segments (entry ∷ entries) bytes long each =
+    let front : length (take 4096 bytes) ≡ 4096 = length-take-le 4096 bytes (omega arith) in
+    let first : take 4096 bytes ≡ bytes_from segments (4096 * entry.page) 4096 =
+    bytes_are segments (4096 * entry.page) 4096 (take 4096 bytes) front (λ j below.
+    let here : 4096 * 0 + j ≡ j = omega arith in
+    get_or-take 4096 bytes j 0 below ∙ sym (ap (λ (n : ℕ). get_or bytes n 0) here) ∙ each 0 j (omega arith) below) in
+    let rest : drop 4096 bytes ≡ bytes_of_entries segments entries =
+    joined_pages segments entries (drop 4096 bytes) (omega (arith, length-drop 4096 bytes)) (λ k j within below.
+    let there : 4096 + (4096 * k + j) ≡ 4096 * suc k + j = omega arith in
+    get_or-drop 4096 bytes (4096 * k + j) 0
+    ∙ ap (λ (n : ℕ). get_or bytes n 0) there
+    ∙ each (suc k) j (omega arith) below) in
+    sym (take-append-drop 4096 bytes)
+    ∙ ap (λ (bs : List ℕ). bs ++ drop 4096 bytes) first
+    ∙ ap (λ (bs : List ℕ). bytes_from segments (4096 * entry.page) 4096 ++ bs) rest
+
+pub filled_all : (bytes : List ℕ) (entries : List PageEntry) (segments : List Segment) (i : ℕ) → length segments ≤ i → IsFilled bytes entries segments i → bytes ≡ bytes_of_entries segments entries
+filled_all bytes entries segments i done filled =
+    joined_pages segments entries bytes filled.size (λ k j within below.
+    filled.each k j within below ∙ ap (λ (xs : List Segment). byte_of xs (4096 * (entry_at entries k).page + j)) (take_all i segments done))
 
 -- beyond the last address of segments each byte is zero
 byte_beyond : (segments : List Segment) (address : ℕ) → IsSegmentList segments → segments_end ≤ address → byte_of segments address ≡ 0

@@ -1,12 +1,14 @@
 pub mod Allowed
 pub mod Assembled
+pub mod Collected
 pub mod Entries
 pub mod Filling
+pub mod Granting
 pub mod Laying
 pub mod Loading
 pub mod Looks
 pub mod Made
-pub mod Next
+pub mod Numbers
 pub mod PageFaults
 pub mod PagesAt
 pub mod Places

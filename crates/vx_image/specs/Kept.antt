@@ -1,5 +1,5 @@
 -- How an image is kept: the entries of its pages, and the bytes of all pages one after another. This project's own.
-use Rattle.std.specs.Prelude.{◌≡◌, ℕ, ◌*◌, ◌%◌, ◌<◌, ◌≢◌, List, [], ◌∷◌, length, take, drop, slice_index_or}
+use Rattle.std.specs.Prelude.{◌≡◌, ℕ, ◌*◌, ◌%◌, ◌<◌, ◌≤◌, ◌≢◌, List, [], ◌∷◌, length, take, drop, slice_index_or}
 use Rattle.vx_base.specs.Pages.{IsPageList}
 use Rattle.vx_base.specs.declared.perm.PageEntry.{PageEntry}
 use Rattle.vx_image.specs.Pages.{Memory}
@@ -37,6 +37,12 @@ pub record IsKept (entries : List PageEntry) (bytes : List ℕ) : Type 0 where
 pub record IsPlaceOf (entries : List PageEntry) (page k : ℕ) : Type 0 where
   pub within : k < length entries
   pub same : (entry_at entries k).page ≡ page
+
+-- the entries from a place on are those of this page and of pages above it
+pub record IsPlaceFrom (entries : List PageEntry) (page k : ℕ) : Type 0 where
+  pub within : k ≤ length entries
+  pub below : (i : ℕ) → i < k → (entry_at entries i).page < page
+  pub above : (i : ℕ) → k ≤ i → i < length entries → page ≤ (entry_at entries i).page
 
 -- no entry is that of the page
 abbrev pub Lacks : List PageEntry → ℕ → Type 0

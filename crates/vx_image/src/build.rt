@@ -1,13 +1,15 @@
-ghost use Rattle.std.specs.Prelude.{List, option_map, find, ◌≡◌, ℕ, ◌+◌, ◌-◌, ◌*◌, ◌^◌, ◌<◌, ◌≤◌, ◌++◌, length, slice_index, false, true, IfOk, OnOk};
+ghost use Rattle.std.specs.Prelude.{List, [], map, option_map, find, ◌≡◌, ℕ, ◌*◌, ◌^◌, ◌<◌, ◌++◌, length, IfOk, OnOk, All};
+ghost use Rattle.std.specs.List.Sorted.{IsNonDecreasingBy};
 ghost use Rattle.vx_base.specs.Pages.{IsPageList};
 ghost use Rattle.vx_elf.specs.Segments.{IsSegment, IsSegmentList};
 ghost use Rattle.vx_base.specs.declared.perm.PageEntry.{PageEntry};
 ghost use Rattle.vx_image.specs.Images.{is_write_exec, is_code, pages_fault};
 ghost use Rattle.vx_image.specs.Kept.{IsRising, pages_of};
-ghost use Rattle.vx_image.specs.Mapping.{meets_page, page_permissions, bytes_from, stack_page};
-ghost use Rattle.vx_image.specs.Building.{IsFirstPage, IsNextPage, IsLaid, IsZero, entries_below, stack_entries, bytes_of_entries};
+ghost use Rattle.vx_image.specs.Mapping.{stack_page};
+ghost use Rattle.vx_image.specs.Building.{is_among, is_met, numbers_below, granted, entry_of_segments, IsLaid, IsLaidOn, entries_below, stack_entries, bytes_of_entries};
 
 use crate::fault::ImageFault;
+use crate::met::{met_pages, places_met};
 use crate::search::place_of;
 use bitflags::Flags;
 use std::alloc::{AllocError, Global};
@@ -18,7 +20,7 @@ use vx_elf::Segment;
 pub const PAGE_LEN: usize = 4096;
 
 /// The same, as a step of addresses.
-const PAGE_BYTES: u64 = PAGE_LEN as u64;
+pub const PAGE_BYTES: u64 = PAGE_LEN as u64;
 
 /// The first page of the stack.
 const STACK_PAGE: u64 = 0x3ff_fff0;
@@ -32,57 +34,49 @@ const STACK_PERM: Perm = Perm { bits: 6 };
 /// How many pages an image may have.
 pub const PAGE_LIMIT: u64 = 4096;
 
-/// The lowest page from `from` on that a segment's memory meets, and the stack's first where it meets none.
-fn first_page(segment: &Segment, from: u64) -> u64
-    requires segment { IsSegment segment.now }
-    requires from { from ≤ stack_page }
-    ensures { IsFirstPage segment.now from result }
+/// An entry for each page of a list, without permissions.
+fn blank_entries(alloc: Global, pages: &[u64]) -> Result<Vec<PageEntry>, AllocError>
+    requires rising { IsNonDecreasingBy (λ (n : ℕ). n) pages.now }
+    requires low { All (λ (n : ℕ). n < stack_page) pages.now }
+    ensures { IfOk result (λ entries. entries.items ≡ map (entry_of_segments []) (numbers_below (is_among pages.now) stack_page)) }
 {
-    let last = (segment.address + segment.size - 1) / PAGE_BYTES;
-    if last < from {
-        return STACK_PAGE;
-    }
-    from.max(segment.address / PAGE_BYTES)
-}
-
-/// The lowest page from `from` on that the memory of one of the segments meets, and the stack's first where there is
-/// none.
-fn next_page(segments: &[Segment], from: u64) -> u64
-    requires segments { IsSegmentList segments.now }
-    requires from { from ≤ stack_page }
-    ensures { IsNextPage segments.now from result }
-{
-    let mut next = STACK_PAGE;
-    for segment in segments {
-        next = next.min(first_page(segment, from));
-    }
-    next
-}
-
-/// Whether the memory of a segment meets a page.
-fn meets_page(segment: &Segment, number: u64) -> bool
-    requires segment { IsSegment segment.now }
-    requires number { number < 2 ^ 32 }
-    ensures { result ≡ meets_page number segment.now }
-{
-    let start = PAGE_BYTES * number;
-    segment.address < start + PAGE_BYTES && start < segment.address + segment.size
-}
-
-/// The permissions of a page: all those of the segments that meet it.
-#[tactic(auto, unfolding(crate::specs::Mapping::page_permissions))]
-fn page_perm(segments: &[Segment], number: u64) -> Perm
-    requires segments { IsSegmentList segments.now }
-    requires number { number < 2 ^ 32 }
-    ensures { result.bits ≡ page_permissions segments.now number }
-{
-    let mut perm = Perm { bits: 0 };
-    for segment in segments {
-        if meets_page(segment, number) {
-            perm = perm.union(segment.perm);
+    let mut entries = Vec::new(alloc);
+    let mut from = 0;
+    for page in pages {
+        let page = *page;
+        if from <= page {
+            let perm = Perm { bits: 0 };
+            entries.push(PageEntry { page, perm })?;
+            from = page + 1;
         }
     }
-    perm
+    Ok(entries)
+}
+
+/// Gives the pages that a segment's memory meets its permissions.
+fn grant(entries: &mut [PageEntry], segment: &Segment)
+    requires segment { IsSegment segment.now }
+    requires rising { IsRising entries.old }
+    ensures { entries.new ≡ map (granted segment.now) entries.old }
+{
+    let places = places_met(entries, segment);
+    for place in places.start..places.end {
+        let perm = entries[place].perm.union(segment.perm);
+        entries[place].perm = perm;
+    }
+}
+
+/// The pages that the segments meet, each with the permissions of all segments that meet it, in rising order.
+fn segment_entries(alloc: Global, segments: &[Segment]) -> Result<Vec<PageEntry>, AllocError>
+    requires { IsSegmentList segments.now }
+    ensures { IfOk result (λ entries. entries.items ≡ map (entry_of_segments segments.now) (numbers_below (is_met segments.now) stack_page)) }
+{
+    let pages = met_pages(alloc, segments)?;
+    let mut entries = blank_entries(alloc, &pages)?;
+    for segment in segments {
+        grant(entries.as_mut_slice(), segment);
+    }
+    Ok(entries)
 }
 
 /// The pages that the segments meet, and those of the stack, in rising order.
@@ -90,13 +84,7 @@ pub fn page_entries(alloc: Global, segments: &[Segment]) -> Result<Vec<PageEntry
     requires { IsSegmentList segments.now }
     ensures { IfOk result (λ entries. entries.items ≡ entries_below segments.now 0x4000000) }
 {
-    let mut entries = Vec::new(alloc);
-    let mut page = next_page(segments, 0);
-    while page < STACK_PAGE {
-        let perm = page_perm(segments, page);
-        entries.push(PageEntry { page, perm })?;
-        page = next_page(segments, page + 1);
-    }
+    let mut entries = segment_entries(alloc, segments)?;
     push_stack(&mut entries)?;
     Ok(entries)
 }
@@ -115,7 +103,6 @@ fn push_stack(entries: &mut Vec<PageEntry>) -> Result<(), AllocError>
 }
 
 /// The bytes of the pages, one after another.
-#[tactic(auto, unfolding(crate::specs::Building::bytes_of_entries))]
 pub fn page_bytes(
     alloc: Global,
     segments: &[Segment],
@@ -126,34 +113,25 @@ pub fn page_bytes(
     ensures { IfOk result (λ bytes. bytes.items ≡ bytes_of_entries segments.now entries.now) }
 {
     let mut bytes = Vec::new(alloc);
-    for entry in entries {
-        push_page(&mut bytes, segments, PAGE_BYTES * entry.page)?;
+    bytes.resize(PAGE_LEN * entries.len(), 0)?;
+    for segment in segments {
+        lay_pages(bytes.as_mut_slice(), entries, segment);
     }
     Ok(bytes)
 }
 
-/// Adds the bytes of a page that begins at an address.
-fn push_page(bytes: &mut Vec<u8>, segments: &[Segment], address: u64) -> Result<(), AllocError>
-    requires segments { IsSegmentList segments.now }
-    requires address { address < 2 ^ 63 }
-    ensures { OnOk result (bytes.new.items ≡ bytes.old.items ++ bytes_from segments.now address 4096) }
+/// Lays the bytes that a segment holds onto those of pages.
+fn lay_pages(bytes: &mut [u8], entries: &[PageEntry], segment: &Segment)
+    requires segment { IsSegment segment.now }
+    requires entries { IsPageList entries.now }
+    requires whole { length bytes.old ≡ 4096 * length entries.now }
+    ensures { IsLaidOn entries.now bytes.old bytes.new segment.now }
 {
-    let start = bytes.len();
-    bytes.resize(start + PAGE_LEN, 0)?;
-    fill_page(&mut bytes[start..], segments, address);
-    Ok(())
-}
-
-/// Lays the bytes of segments onto zeros that begin at an address.
-fn fill_page(page: &mut [u8], segments: &[Segment], address: u64)
-    requires segments { IsSegmentList segments.now }
-    requires zeros { IsZero page.old }
-    requires address { address < 2 ^ 63 }
-    requires page { length page.old < 2 ^ 62 }
-    ensures { page.new ≡ bytes_from segments.now address (length page.old) }
-{
-    for segment in segments {
-        lay(page, segment, address);
+    let places = places_met(entries, segment);
+    for place in places.start..places.end {
+        let start = PAGE_LEN * place;
+        let address = PAGE_BYTES * entries[place].page;
+        lay(&mut bytes[start..start + PAGE_LEN], segment, address);
     }
 }
 

@@ -9,6 +9,7 @@ mod build;
 mod fault;
 mod frames;
 mod image;
+mod met;
 mod search;
 
 pub use fault::ImageFault;

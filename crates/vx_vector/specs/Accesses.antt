@@ -12,8 +12,8 @@ use Rattle.vx_vstate.specs.Registers.{element, with_element}
 use Rattle.vx_vstate.specs.State.{SettingView}
 use Rattle.vx_vector.specs.Numbers.{is_set}
 
--- an access: of an element and its field, so many bytes from an address on, which stand in the registers from a byte on that
--- is counted from a register's first
+-- an access: the element and the field that it moves, the address of its first byte, how many bytes it has, and where in the
+-- registers they stand: so many bytes behind the first of a register
 pub record Access : Type 0 where
   pub element : ℕ
   pub field : ℕ

@@ -29,9 +29,9 @@ use vx_vstate::{
     set_element_is_read, set_element_leaves_words,
 };
 
-/// Law of words: after the instruction, word `w` of the destination is the one that is made of its elements, and the
-/// instruction saturates where a word that it makes does, which are words of the destination. So words can be made one by
-/// one, in any order. The premise `word_before r w < 2 ^ 64` says that a word is a number of 64 bits.
+/// Law of words: after the instruction, word `w` of the destination is the one that is made of its elements. The words that
+/// an instruction makes are words of its destination, and it saturates where one of them does. So words can be made one by
+/// one, in any order. A word is a number of 64 bits (`word_before r w < 2 ^ 64`).
 pub fn words_are_made()
     ensures value { (r : Reading) (w : ℕ) → IsSound r → word_before r w < 2 ^ 64 → w < length (destination_words r) → word_at r.at.vlen (words_after r) r.places.vd w ≡ made_word r w }
     ensures inside { (r : Reading) (w : ℕ) → IsSound r → told r ≡ None → Contains (made_words r) w → w < length (destination_words r) }
