@@ -37,7 +37,7 @@ pub record ExamplesHold : Type 0 where
   pub code_is_kept : leaf_written Store 0xc5b ≡ None
   pub code_is_granted : map (λ want. leaf_answer want 0xc5b) (Fetch ∷ Load ∷ Store ∷ []) ≡ walked.Leaf 3 (record { bits = 5 }) false ∷ walked.Leaf 3 (record { bits = 5 }) false ∷ walked.Denied ∷ []
   -- a page that is away is so for a store too; a leaf without U, and one without V, are denied
-  pub others_arent : map (leaf_answer Store) (0x100 ∷ 0x8c7 ∷ 0x8d6 ∷ []) ≡ walked.Away ∷ walked.Denied ∷ walked.Denied ∷ []
+  pub away_or_denied : map (leaf_answer Store) (0x100 ∷ 0x8c7 ∷ 0x8d6 ∷ []) ≡ walked.Away ∷ walked.Denied ∷ walked.Denied ∷ []
   -- the last address below 2 ^ 38 and the first of the last 2 ^ 38 are canonical; what is between isn't
   pub canonical : map is_canonical (0x3fffffffff ∷ 0x4000000000 ∷ 0xffffffbfffffffff ∷ 0xffffffc000000000 ∷ []) ≡ true ∷ false ∷ false ∷ true ∷ []
   -- 0x40403008 is byte 8 of page 3 of region 2 of region 1
