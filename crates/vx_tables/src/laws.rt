@@ -10,6 +10,7 @@ ghost use Rattle.vx_image.specs.Pages.{Memory};
 ghost use Rattle.vx_image.specs.Tables as image;
 ghost use Rattle.vx_tables.specs.Building.{Builds, IsFrom, kernel_writes, pointer_for, table_writes};
 ghost use Rattle.vx_tables.specs.Entries.{page_entry};
+ghost use Rattle.vx_tables.specs.Examples.{ExamplesHold};
 ghost use Rattle.vx_tables.specs.Residency.{Residency, PlacedPage, Place, IsOf, pages_of, placed, with_place, page_map, after_walk, is_granted, AreBelow, at_boot, place_at_boot};
 ghost use Rattle.vx_tables.specs.Tables.{AreHeld, Stand, SameBut, gib, mib2, has_region, region_total, regions_below, leaf_entry, leaf_word, table_count};
 ghost use Rattle.vx_tables.specs.Walking.{Walking, first_stage, stage_after, IsWalk, Agree, CanTick, WalkGoesOn, WalkEnds};
@@ -40,7 +41,12 @@ pub fn a_written_leaf_moves_its_page()
         → Stand (slice_set contents (leaf_word first (pages_of residency) number) (page_entry p.entry.perm.bits place)) first (with_place number place residency) }
 {}
 
-/// Tables stay where memory changes in other frames alone.
+/// The definitions give what is worked out for some entries, walks and look-ups.
+pub fn examples_hold()
+    ensures { ExamplesHold }
+{}
+
+/// Tables stay where memory changes in other frames alone: of one of their own, nothing says what its words are afterwards.
 pub fn tables_elsewhere_stay()
     ensures { (before after : List ℕ) (first changed count : ℕ) (residency : Residency) → Stand before first residency → SameBut changed count before after
         → (first + table_count (pages_of residency) ≤ changed) ⊎ (changed + count ≤ first) → Stand after first residency }

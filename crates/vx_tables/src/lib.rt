@@ -13,7 +13,7 @@ mod stage;
 mod walked;
 
 pub use laws::{
-    a_walk_is_the_page_map, a_written_leaf_moves_its_page, pages_are_granted,
+    a_walk_is_the_page_map, a_written_leaf_moves_its_page, examples_hold, pages_are_granted,
     steps_follow_the_tables, tables_are_built_in_turn, tables_elsewhere_stay,
     walks_go_side_by_side,
 };
