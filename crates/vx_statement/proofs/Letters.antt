@@ -1,6 +1,6 @@
 -- No row has a name that begins otherwise than the row's mnemonics.
-use Rattle.std.proofs.Common.{◌≡◌, ℕ, Bool, true, false, not, cond, ◌&&◌, List, [], ◌∷◌, ◌++◌, find, take, drop, is_some, Option, Some, None, bytes_eq, refl, sym, ap, ◌∙◌, true≢false}
-use Rattle.std.proofs.lemmas.List.{take-append-drop}
+use Rattle.std.proofs.Common.{◌≡◌, ℕ, Bool, true, false, not, cond, ◌&&◌, List, [], ◌∷◌, ◌++◌, find, take, drop, is_some, Option, Some, None, bytes_eq, refl, sym, ap, ◌∙◌, true≢false, length, ◌-◌, le_of_eq}
+use Rattle.std.proofs.lemmas.List.{take-append-drop, take_all, length-drop}
 use Rattle.std.proofs.lemmas.List.Folds.{find-append}
 use Rattle.std.proofs.lemmas.Slice.Eq.{bytes_eq-Decides}
 use Rattle.std.specs.List.{list_all}
@@ -29,7 +29,7 @@ unfolding operations
 vectors-begin = refl
 
 both : (x y : Bool) → (x && y) ≡ true → (x ≡ true) × (y ≡ true)
-both true true e = refl, refl
+both true true e = (refl, refl)
 both true false e = absurd (true≢false (sym e))
 both false y e = absurd (true≢false (sym e))
 
@@ -63,10 +63,13 @@ or-none (Some x) = refl
 halves : (p : Row → Bool) (xs : List Row) (n : ℕ) → find p xs ≡ option_or (find p (take n xs)) (find p (drop n xs))
 halves p xs n = ap (find p) (sym (take-append-drop n xs)) ∙ find-append p (take n xs) (drop n xs)
 
+rest-of : (n : ℕ) (xs : List Row) → take (length xs - n) (drop n xs) ≡ drop n xs
+rest-of n xs = take_all (length xs - n) (drop n xs) (le_of_eq (length-drop n xs))
+
 -- a name that begins with v is found where it is found among the rows of vector instructions
-pub vector-found : (name : List ℕ) → begins_with_v name ≡ true → find (λ (row : Row). is_some (nf_named name row.op)) (drop 71 table) ≡ find (λ (row : Row). is_some (nf_named name row.op)) table
+pub vector-found : (name : List ℕ) → begins_with_v name ≡ true → find (λ (row : Row). is_some (nf_named name row.op)) (take (length table - 71) (drop 71 table)) ≡ find (λ (row : Row). is_some (nf_named name row.op)) table
 vector-found name e =
-    sym (halves (λ (row : Row). is_some (nf_named name row.op)) table 71 ∙ ap (λ o. option_or o (find (λ (row : Row). is_some (nf_named name row.op)) (drop 71 table))) (none-so name false (take 71 table) e others-begin))
+    ap (find (λ (row : Row). is_some (nf_named name row.op))) (rest-of 71 table) ∙ sym (halves (λ (row : Row). is_some (nf_named name row.op)) table 71 ∙ ap (λ o. option_or o (find (λ (row : Row). is_some (nf_named name row.op)) (drop 71 table))) (none-so name false (take 71 table) e others-begin))
 
 -- any other is found where it is found among the rest
 pub other-found : (name : List ℕ) → begins_with_v name ≡ false → find (λ (row : Row). is_some (nf_named name row.op)) (take 71 table) ≡ find (λ (row : Row). is_some (nf_named name row.op)) table

@@ -193,6 +193,7 @@ fn nf_named(name: &[u8], op: Op) -> Option<u8>
 const SCALAR_ROWS: usize = 71;
 
 /// Whether a name begins with `v`, as the mnemonics of vector instructions and no others do.
+#[tactic(auto, unfolding(crate::specs::Letters::begins_with_v))]
 fn begins_with_v(name: &[u8]) -> bool
     ensures { result ≡ begins_with_v name.now }
 {
