@@ -1,5 +1,5 @@
 -- No row has a name that begins otherwise than the row's mnemonics.
-use Rattle.std.proofs.Common.{◌≡◌, ℕ, Bool, true, false, not, cond, ◌&&◌, List, [], ◌∷◌, ◌++◌, find, take, drop, is_some, Option, Some, None, bytes_eq, refl, sym, ap, ◌∙◌, true≢false, length, ◌-◌, le_of_eq}
+use Rattle.std.proofs.Common.{◌≡◌, ℕ, Bool, true, false, not, cond, ◌&&◌, List, [], ◌∷◌, find, take, drop, is_some, Option, Some, None, bytes_eq, refl, sym, ap, ◌∙◌, true≢false, length, ◌-◌, le_of_eq}
 use Rattle.std.proofs.lemmas.List.{take-append-drop, take_all, length-drop}
 use Rattle.std.proofs.lemmas.List.Folds.{find-append}
 use Rattle.std.proofs.lemmas.Slice.Eq.{bytes_eq-Decides}
@@ -12,20 +12,20 @@ use Rattle.vx_rows.specs.declared.row.Row.{Row}
 use Rattle.vx_statement.specs.Letters.{begins_with_v}
 
 -- the one where the choice holds, else not the other
-alike : Bool → Bool → Bool
+abbrev alike : Bool → Bool → Bool
 alike true b = b
 alike false b = not b
 
 -- all mnemonics of a row's operation begin with v, or all begin otherwise
-begin_so : Bool → Row → Bool
+abbrev begin_so : Bool → Row → Bool
 begin_so b row = list_all (λ (nf : ℕ). alike b (begins_with_v (mnemonic row.op nf))) (named_nfs (layout_of (shape_of row.op)).nf)
 
 others-begin : list_all (begin_so false) (take 71 table) ≡ true
-unfolding operations
+unfolding operations begins_with_v
 others-begin = refl
 
 vectors-begin : list_all (begin_so true) (drop 71 table) ≡ true
-unfolding operations
+unfolding operations begins_with_v
 vectors-begin = refl
 
 both : (x y : Bool) → (x && y) ≡ true → (x ≡ true) × (y ≡ true)
