@@ -10,3 +10,4 @@ pub mod Judging
 pub mod Naming
 pub mod Owned
 pub mod Fields
+pub mod Letters

@@ -24,6 +24,6 @@ found-rows q (op ∷ ops) =
     found-row q op (layout_of (shape_of op)).nf (q op) (flat_map rows_of ops) refl
     ∙ ap (λ (o : Option Op). cond (q op) (Some op) o) (found-rows q ops)
 
-pub found-in-table : (q : Op → Bool) (rows : List Row) (r : Option Row) → rows ≡ table → r ≡ find (λ (r : Row). q r.op) rows → option_map (λ (r : Row). r.op) r ≡ find q operations
+pub found-in-table : (q : Op → Bool) (rows : List Row) (r : Option Row) → find (λ (r : Row). q r.op) rows ≡ find (λ (r : Row). q r.op) table → r ≡ find (λ (r : Row). q r.op) rows → option_map (λ (r : Row). r.op) r ≡ find q operations
 found-in-table q rows r e h =
-    ap (option_map (λ (r : Row). r.op)) (h ∙ ap (find (λ (r : Row). q r.op)) e) ∙ found-rows q operations
+    ap (option_map (λ (r : Row). r.op)) (h ∙ e) ∙ found-rows q operations

@@ -2,6 +2,7 @@ pub mod Advances
 pub mod Controls
 pub mod Knowing
 pub mod Labels
+pub mod Letters
 pub mod Lexemes
 pub mod Owning
 pub mod Ranges

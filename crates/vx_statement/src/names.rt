@@ -1,14 +1,16 @@
 ghost use Rattle.std.specs.Prelude.{◌≡◌, ◌<◌, map, find, length, position, bytes_eq, IfSome, is_some};
 ghost use Rattle.vx_rows.specs.Layouts.{layout_of, HasFields};
-ghost use Rattle.vx_rows.specs.Table.{mnemonic, operations, shape_of};
+ghost use Rattle.vx_rows.specs.Table.{mnemonic, operations, shape_of, table};
 ghost use Rattle.vx_rows.specs.declared.op.Op.{Op};
 ghost use Rattle.vx_rows.specs.declared.row.Nf.TheVariants as nf;
+ghost use Rattle.vx_rows.specs.declared.row.Row as ghost_row;
 ghost use Rattle.vx_language.specs.Names.{numbered_names, register_number, vector_number, vtype_number, control_number, bare_instr, nf_named, named_instr, instr_named};
 ghost use Rattle.vx_source.specs.Names.{named_controls};
 ghost use Rattle.vx_statement.specs.Controls.{named};
+ghost use Rattle.vx_statement.specs.Letters.{begins_with_v};
 
 use vx_decode::Instr;
-use vx_rows::{Nf, Op, name_of, rows};
+use vx_rows::{Nf, Op, Row, name_of, rows};
 use vx_source::{VtypeField, register_names, vector_names};
 
 static NUMBERED_NAMES: [&str; 32] = [
@@ -187,11 +189,41 @@ fn nf_named(name: &[u8], op: Op) -> Option<u8>
     }
 }
 
+/// How many rows stand before those of vector instructions.
+const SCALAR_ROWS: usize = 71;
+
+/// Whether a name begins with `v`, as the mnemonics of vector instructions and no others do.
+#[tactic(auto, unfolding(crate::specs::Letters::begins_with_v))]
+fn begins_with_v(name: &[u8]) -> bool
+    ensures { result ≡ begins_with_v name.now }
+{
+    match name.split_first() {
+        Some((first, _)) => *first == b'v',
+        None => false,
+    }
+}
+
+/// The rows whose mnemonics begin as a name does: no other row has it.
+#[tactic(auto, unfolding(vx_rows::specs::Table::operations))]
+fn rows_beginning_as(name: &[u8]) -> &'static [Row]
+    ensures { find (λ (row : ghost_row.Row). is_some (nf_named name.now row.op)) result.now ≡ find (λ (row : ghost_row.Row). is_some (nf_named name.now row.op)) table }
+{
+    let all = rows();
+    if begins_with_v(name) {
+        &all[SCALAR_ROWS..]
+    } else {
+        &all[..SCALAR_ROWS]
+    }
+}
+
 /// The operation that has this mnemonic, where one has it.
 fn operation_named(name: &[u8]) -> Option<Op>
     ensures { result ≡ find (λ (op : Op). is_some (nf_named name.now op)) operations }
 {
-    match rows().iter().find(|row| nf_named(name, row.op).is_some()) {
+    match rows_beginning_as(name)
+        .iter()
+        .find(|row| nf_named(name, row.op).is_some())
+    {
         Some(row) => Some(row.op),
         None => None,
     }

@@ -9,12 +9,12 @@ use Rattle.vx_statement.proofs.names.operation_named.Goals as goal
 
 pub returns-in-Some : goal.returns-in-Some
 returns-in-Some c =
-    let found = find_from_yields_List (λ (r : Row). is_some (nf_named c.args.name.now r.op)) _ _ c.find.result c.find.ensures.ran (YieldsList-from_slice c.rows.result.now cc) (λ x b q k. search (rules, tests)) in
-    let back = found-in-table (λ (op : Op). is_some (nf_named c.args.name.now op)) _ _ c.rows.ensures found in
+    let found = find_from_yields_List (λ (r : Row). is_some (nf_named c.args.name.now r.op)) _ _ c.find.result c.find.ensures.ran (YieldsList-from_slice c.rows_beginning_as.result.now cc) (λ x b q k. search (rules, tests)) in
+    let back = found-in-table (λ (op : Op). is_some (nf_named c.args.name.now op)) _ _ c.rows_beginning_as.ensures found in
     rw c.in-Some.is at back
 
 pub returns-in-None : goal.returns-in-None
 returns-in-None c =
-    let found = find_from_yields_List (λ (r : Row). is_some (nf_named c.args.name.now r.op)) _ _ c.find.result c.find.ensures.ran (YieldsList-from_slice c.rows.result.now cc) (λ x b q k. search (rules, tests)) in
-    let back = found-in-table (λ (op : Op). is_some (nf_named c.args.name.now op)) _ _ c.rows.ensures found in
+    let found = find_from_yields_List (λ (r : Row). is_some (nf_named c.args.name.now r.op)) _ _ c.find.result c.find.ensures.ran (YieldsList-from_slice c.rows_beginning_as.result.now cc) (λ x b q k. search (rules, tests)) in
+    let back = found-in-table (λ (op : Op). is_some (nf_named c.args.name.now op)) _ _ c.rows_beginning_as.ensures found in
     rw c.in-None.is at back
