@@ -144,6 +144,7 @@ impl Alone {
     }
 
     /// Does an instruction, whose word this is, unless it asks for a service. Gives its class, where it is executed.
+    #[inline(always)]
     fn advance_by(&mut self, word: u32, known: Known) -> Option<Class>
         requires running { self.old.over ≡ None }
         requires valid { IsValid known.instr }
@@ -222,6 +223,7 @@ impl Alone {
     }
 
     /// What a step of the machine as it is now answers.
+    #[inline(always)]
     fn turn(&self) -> Turn
         ensures { result ≡ turn_of self.now.over }
     {
@@ -410,7 +412,7 @@ impl Alone {
         requires length { self.old.state.v.vlen ≡ at.now.vlen }
         ensures moved { HasMoved Loading (movement_with pattern.now self.old.state.v.words) self.old self.new result }
     {
-        self.kept.keep(&self.arch.v);
+        self.kept.keep_for(pattern, &self.arch.v);
         load_elements(pattern, at, &self.kept, &mut self.arch.v, &mut self.memory)
     }
 
@@ -456,6 +458,7 @@ impl Alone {
     }
 
     /// Does an instruction that touches no memory.
+    #[inline(always)]
     fn affect(&mut self, i: Instr)
         requires running { self.old.over ≡ None }
         requires registers { NamesRegisters i }
@@ -466,6 +469,7 @@ impl Alone {
     }
 
     /// Takes the effect of an instruction with this destination.
+    #[inline(always)]
     fn take(&mut self, rd: u8, effect: Effect)
         requires running { self.old.over ≡ None }
         requires register { rd < 32 }
@@ -483,6 +487,7 @@ impl Alone {
     }
 
     /// Does a load.
+    #[inline(always)]
     fn load(&mut self, i: Instr)
         requires running { self.old.over ≡ None }
         requires registers { NamesRegisters i }
@@ -498,6 +503,7 @@ impl Alone {
     }
 
     /// Does a load from an address that is a multiple of its width.
+    #[inline(always)]
     fn load_aligned(&mut self, i: Instr, address: u64, width: u64)
         requires running { self.old.over ≡ None }
         requires register { i.rd < 32 }
@@ -515,6 +521,7 @@ impl Alone {
     }
 
     /// Does a store.
+    #[inline(always)]
     fn store(&mut self, i: Instr)
         requires running { self.old.over ≡ None }
         requires registers { NamesRegisters i }
@@ -531,6 +538,7 @@ impl Alone {
     }
 
     /// Does a store at an address that is a multiple of its width.
+    #[inline(always)]
     fn store_aligned(&mut self, address: u64, width: u64, value: u64)
         requires running { self.old.over ≡ None }
         requires width { IsTrue (is_access_width width) }
@@ -593,6 +601,7 @@ impl Alone {
     }
 
     /// The instruction has completed, and the pc moves on.
+    #[inline(always)]
     fn complete(&mut self)
         requires running { self.old.over ≡ None }
         ensures { self.new ≡ after self.old (Next (record self.old.state { pc = following self.old.state })) }
@@ -601,6 +610,7 @@ impl Alone {
     }
 
     /// The instruction has completed, and the process goes on at a pc.
+    #[inline(always)]
     fn go_on(&mut self, pc: u64)
         requires running { self.old.over ≡ None }
         requires aligned { pc % 4 ≡ 0 }
@@ -623,6 +633,7 @@ impl Alone {
 }
 
 /// Whether an address is a multiple of the width of an access.
+#[inline(always)]
 pub fn is_aligned(address: u64, width: u64) -> bool
     requires { IsTrue (is_access_width width) }
     ensures { result ≡ (address % width == 0) }
