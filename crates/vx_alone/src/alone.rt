@@ -144,7 +144,6 @@ impl Alone {
     }
 
     /// Does an instruction, whose word this is, unless it asks for a service. Gives its class, where it is executed.
-    #[inline(always)]
     fn advance_by(&mut self, word: u32, known: Known) -> Option<Class>
         requires running { self.old.over ≡ None }
         requires valid { IsValid known.instr }
@@ -223,7 +222,6 @@ impl Alone {
     }
 
     /// What a step of the machine as it is now answers.
-    #[inline(always)]
     fn turn(&self) -> Turn
         ensures { result ≡ turn_of self.now.over }
     {
@@ -458,7 +456,6 @@ impl Alone {
     }
 
     /// Does an instruction that touches no memory.
-    #[inline(always)]
     fn affect(&mut self, i: Instr)
         requires running { self.old.over ≡ None }
         requires registers { NamesRegisters i }
@@ -469,7 +466,6 @@ impl Alone {
     }
 
     /// Takes the effect of an instruction with this destination.
-    #[inline(always)]
     fn take(&mut self, rd: u8, effect: Effect)
         requires running { self.old.over ≡ None }
         requires register { rd < 32 }
@@ -487,7 +483,6 @@ impl Alone {
     }
 
     /// Does a load.
-    #[inline(always)]
     fn load(&mut self, i: Instr)
         requires running { self.old.over ≡ None }
         requires registers { NamesRegisters i }
@@ -503,7 +498,6 @@ impl Alone {
     }
 
     /// Does a load from an address that is a multiple of its width.
-    #[inline(always)]
     fn load_aligned(&mut self, i: Instr, address: u64, width: u64)
         requires running { self.old.over ≡ None }
         requires register { i.rd < 32 }
@@ -521,7 +515,6 @@ impl Alone {
     }
 
     /// Does a store.
-    #[inline(always)]
     fn store(&mut self, i: Instr)
         requires running { self.old.over ≡ None }
         requires registers { NamesRegisters i }
@@ -538,7 +531,6 @@ impl Alone {
     }
 
     /// Does a store at an address that is a multiple of its width.
-    #[inline(always)]
     fn store_aligned(&mut self, address: u64, width: u64, value: u64)
         requires running { self.old.over ≡ None }
         requires width { IsTrue (is_access_width width) }
@@ -601,7 +593,6 @@ impl Alone {
     }
 
     /// The instruction has completed, and the pc moves on.
-    #[inline(always)]
     fn complete(&mut self)
         requires running { self.old.over ≡ None }
         ensures { self.new ≡ after self.old (Next (record self.old.state { pc = following self.old.state })) }
@@ -610,7 +601,6 @@ impl Alone {
     }
 
     /// The instruction has completed, and the process goes on at a pc.
-    #[inline(always)]
     fn go_on(&mut self, pc: u64)
         requires running { self.old.over ≡ None }
         requires aligned { pc % 4 ≡ 0 }
