@@ -1,5 +1,6 @@
 -- Vector loads and stores as a whole: what their parts leave is what the definitions say.
-use Rattle.std.proofs.Common.{◌≡◌, ◌⊎◌, ℕ, ◌*◌, ◌/◌, ◌<◌, ◌≤◌, Bool, true, false, not, ◌&&◌, nat_lt, Option, None, Some, IfSome, List, length, if◌then◌else◌, refl, sym, ap, ◌∙◌, subst, arith}
+use Rattle.std.proofs.Common.{◌≡◌, ◌⊎◌, ℕ, ◌-◌, ◌*◌, ◌/◌, ◌<◌, ◌≤◌, Bool, true, false, not, ◌&&◌, nat_lt, Option, None, Some, IfSome, List, length, if◌then◌else◌, refl, sym, ap, ◌∙◌, subst, arith}
+use Rattle.std.specs.List.{flat_map, range_with_len}
 use Rattle.std.specs.Option.{option_map}
 use Rattle.std.proofs.lemmas.Bool.{false≢true, true≢false}
 use Rattle.vx_decode.specs.Encoded.{IsValid}
@@ -21,7 +22,7 @@ use Rattle.vx_rows.specs.declared.row.Eew.{Eew}
 use Rattle.vx_vaddr.specs.Movements.{movement}
 use Rattle.vx_vaddr.specs.Views.{movement_with}
 use Rattle.vx_vaddr.specs.declared.pattern.AccessPattern.{AccessPattern}
-use Rattle.vx_vector.specs.Accesses.{Movement, access_bits, access_list, accesses_between, count_by, movement_count, registers_of_field}
+use Rattle.vx_vector.specs.Accesses.{Movement, access_bits, access_list, accesses_between, accesses_of_element, count_by, movement_count, registers_of_field}
 use Rattle.vx_vector.specs.Movements.{IsLegalMovement, IsSoundMovement}
 use Rattle.vx_vstate.specs.Registers.{words_of_all}
 use Rattle.vx_vstate.specs.State.{IsSetting, SettingView, VectorState, setting_of}
@@ -70,24 +71,40 @@ moves-are sound s i a e pattern at base stride b t v h valid row legal words =
 
 -- ---- its elements
 
+-- registers of which each element's accesses are the same serve as well as those that there are
 pub loaded-moved :
     (pattern : AccessPattern) (words : List ℕ) (p : Process) (v : VectorState) (memory : Memory) (failed : Option Failed) →
-    words ≡ p.state.v.words → memory ≡ p.state.memory →
+    ((i : ℕ) → accesses_of_element (movement_with pattern words) i ≡ accesses_of_element (movement_with pattern p.state.v.words) i) → memory ≡ p.state.memory →
     option_map failure_from failed ≡ first_failure Loading p.state.memory (access_list (movement_with pattern words)) →
     IfSome failed (λ (f : Failed). f.item.element < movement_count (movement_with pattern words)) →
     v ≡ after_loading p.state.memory p.state.v (accesses_between (movement_with pattern words) 0 (stop_of (movement_count (movement_with pattern words)) failed)) →
     HasMoved Loading (movement_with pattern p.state.v.words) p (record p { state = record p.state { v = v; memory = memory } }) failed
-loaded-moved pattern words p v memory failed w k failure among l =
-    let m : Movement = movement_with pattern words in
-    let new : Process = record p { state = record p.state { v = v; memory = memory } } in
-    let moved : HasMoved Loading m p new failed = record {
-      failure = failure;
+loaded-moved pattern words p v memory failed alike k failure among l =
+    let m : Movement = movement_with pattern p.state.v.words in
+    let between : (to : ℕ) → accesses_between (movement_with pattern words) 0 to ≡ accesses_between m 0 to = λ to j. flat_map (λ i. alike i j) (range_with_len 0 (to - 0)) in
+    let loaded : v ≡ after_loading p.state.memory p.state.v (accesses_between m 0 (stop_of (movement_count m) failed)) = l ∙ ap (after_loading p.state.memory p.state.v) (between (stop_of (movement_count m) failed)) in
+    record {
+      failure = failure ∙ ap (first_failure Loading p.state.memory) (between (movement_count m));
       among = among;
       done =
-          (λ j. record p { state = record p.state { v = l j; memory = k j } })
+          (λ j. record p { state = record p.state { v = loaded j; memory = k j } })
           ∙ ap (λ (t : Flat). record p { state = t }) (sym (loads-done (accesses_between m 0 (stop_of (movement_count m) failed)) p.state));
-    } in
-    subst (λ (ws : List ℕ). HasMoved Loading (movement_with pattern ws) p new failed) w moved
+    }
+
+-- what is sound with the words of some registers is so with those of others
+pub sound-with : (pattern : AccessPattern) (words others : List ℕ) → length others ≡ words_of_all (movement_with pattern words).at.vlen → IsSoundMovement (movement_with pattern words) → IsSoundMovement (movement_with pattern others)
+sound-with pattern words others count s = record {
+  setting = s.setting;
+  words = count;
+  width = s.width;
+  some_field = s.some_field;
+  few_fields = s.few_fields;
+  room = s.room;
+  within = s.within;
+  masked = s.masked;
+  index_room = s.index_room;
+  indexed = s.indexed;
+}
 
 pub stored-moved :
     (m : Movement) (p : Process) (memory : Memory) (failed : Option Failed) →

@@ -2,7 +2,7 @@
 use Rattle.std.proofs.Common.{◌≡◌, ℕ, zero, suc, ◌+◌, ◌*◌, ◌/◌, ◌%◌, ◌<◌, ◌≤◌, List, [], ◌∷◌, ◌++◌, length, get_or, take, drop, set, replicate, refl, sym, ap, ◌∙◌, arith}
 use Rattle.std.proofs.lemmas.List.{take_more_set, drop-set-lt}
 use Rattle.std.proofs.Common.{append_assoc}
-use Rattle.std.specs.Int.{from_le_bytes, to_le_bytes, w64}
+use Rattle.std.specs.Int.{from_le_bytes, to_le_bytes, w32, w64}
 use Rattle.vx_base.specs.Numbers.{from_little_endian, little_endian}
 
 -- a list of eight, one by one
@@ -15,6 +15,17 @@ pub from_eight : (xs : List ℕ) → length xs ≡ 8 → from_le_bytes w64 xs �
 from_eight xs long =
     let same = ap from_little_endian (eight xs long) in
     let sum : from_le_bytes w64 xs ≡ from_little_endian (get_or xs 0 0 ∷ get_or xs 1 0 ∷ get_or xs 2 0 ∷ get_or xs 3 0 ∷ get_or xs 4 0 ∷ get_or xs 5 0 ∷ get_or xs 6 0 ∷ get_or xs 7 0 ∷ []) = omega arith in
+    sum ∙ sym same
+
+-- and four
+four : (xs : List ℕ) → length xs ≡ 4 → xs ≡ get_or xs 0 0 ∷ get_or xs 1 0 ∷ get_or xs 2 0 ∷ get_or xs 3 0 ∷ []
+four (a ∷ b ∷ c ∷ d ∷ []) long = refl
+four other long = absurd (omega (arith, long))
+
+pub from_four : (xs : List ℕ) → length xs ≡ 4 → from_le_bytes w32 xs ≡ from_little_endian xs
+from_four xs long =
+    let same = ap from_little_endian (four xs long) in
+    let sum : from_le_bytes w32 xs ≡ from_little_endian (get_or xs 0 0 ∷ get_or xs 1 0 ∷ get_or xs 2 0 ∷ get_or xs 3 0 ∷ []) = omega arith in
     sum ∙ sym same
 
 -- zeros behind a number's bytes add nothing

@@ -48,7 +48,7 @@ searched-found start memory want items rest later item cause e some h d w =
     ap (λ (o : Option ℕ). failure_or (access_of_item item) o (first_failure d start (accesses_of_items later))) (sym (cause-there d start memory want item (Some cause) g.kept w some))
     ∙ g.same d w
 
-ahead : (item : Item) (later : List Item) → Contains (accesses_of_items (item ∷ later)) (access_of_item item)
+pub ahead : (item : Item) (later : List Item) → Contains (accesses_of_items (item ∷ later)) (access_of_item item)
 ahead item later = (0, omega arith, refl)
 
 pub searched-width : (start memory : Memory) (want : Want) (items rest later : List Item) (item : Item) → rest ≡ item ∷ later → IsSearched start memory want items rest → IsTrue (is_access_width item.width)

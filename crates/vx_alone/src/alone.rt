@@ -410,7 +410,7 @@ impl Alone {
         requires length { self.old.state.v.vlen ≡ at.now.vlen }
         ensures moved { HasMoved Loading (movement_with pattern.now self.old.state.v.words) self.old self.new result }
     {
-        self.kept.keep(&self.arch.v);
+        self.kept.keep_for(pattern, &self.arch.v);
         load_elements(pattern, at, &self.kept, &mut self.arch.v, &mut self.memory)
     }
 
@@ -623,6 +623,7 @@ impl Alone {
 }
 
 /// Whether an address is a multiple of the width of an access.
+#[inline(always)]
 pub fn is_aligned(address: u64, width: u64) -> bool
     requires { IsTrue (is_access_width width) }
     ensures { result ≡ (address % width == 0) }

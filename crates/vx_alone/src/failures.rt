@@ -21,8 +21,16 @@ pub struct Failed {
     pub cause: u8,
 }
 
+/// An access that fails for a cause.
+#[inline(always)]
+pub fn failed_by(item: &Item, cause: u8) -> Failed
+    ensures { result ≡ record { item = item.now; cause = cause } }
+{
+    Failed { item: *item, cause }
+}
+
 /// The cause of an access whose address is no multiple of its width.
-fn misaligned(want: Want) -> u8
+pub fn misaligned(want: Want) -> u8
     ensures { result ≡ misaligned want }
 {
     match want {
@@ -33,7 +41,7 @@ fn misaligned(want: Want) -> u8
 }
 
 /// The cause of an access that its page doesn't let through.
-fn page_fault(want: Want) -> u8
+pub fn page_fault(want: Want) -> u8
     ensures { result ≡ page_fault want }
 {
     match want {

@@ -1,10 +1,13 @@
 //! The vector registers as they were when an instruction began, of which it reads while it writes the registers themselves.
 
-ghost use Rattle.std.specs.Prelude.{◌≡◌, IfOk};
+ghost use Rattle.std.specs.Prelude.{◌≡◌, ℕ, IfOk, length};
+ghost use Rattle.vx_vaddr.specs.Views.{movement_with};
+ghost use Rattle.vx_vector.specs.Accesses.{accesses_of_element};
 ghost use Rattle.vx_vstate.specs.Registers.{words_of_all};
 
 use std::alloc::{AllocError, Global};
 use std::marker::Model;
+use vx_vaddr::AccessPattern;
 use vx_vstate::{VState, WordFile};
 
 /// The words of vector registers, for reading. It takes all its memory when it is made.
@@ -35,8 +38,21 @@ impl Kept {
         })
     }
 
+    /// Keeps the registers as they are, where accesses depend on them.
+    #[inline(always)]
+    pub fn keep_for(&mut self, pattern: &AccessPattern, v: &VState)
+        ensures length { self.new.vlen ≡ v.now.vlen }
+        ensures count { length self.new.words ≡ words_of_all v.now.vlen }
+        ensures accesses { (i : ℕ) → accesses_of_element (movement_with pattern.now self.new.words) i ≡ accesses_of_element (movement_with pattern.now v.now.words) i }
+    {
+        let vlen = v.vlen();
+        if pattern.needs_words() || self.vlen != vlen {
+            self.keep(v);
+        }
+    }
+
     /// Keeps the registers as they are.
-    pub fn keep(&mut self, v: &VState)
+    fn keep(&mut self, v: &VState)
         ensures { self.new ≡ record { vlen = v.now.vlen; words = v.now.words } }
     {
         self.vlen = v.vlen();

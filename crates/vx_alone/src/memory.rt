@@ -55,6 +55,7 @@ impl Memory {
     }
 
     /// The instruction word at an address that is a multiple of 4; `None` exactly where it can't be fetched.
+    #[inline(always)]
     pub fn word(&mut self, address: u64) -> Option<u32>
         requires { address % 4 ≡ 0 }
         ensures memory { self.new ≡ self.old }
@@ -63,17 +64,12 @@ impl Memory {
     {
         let place = granting(&self.entries, self.code, address, Want::Fetch)?;
         self.code = place;
-        let at = index_of(place, address);
-        Some(u32::from_le_bytes([
-            self.bytes[at],
-            self.bytes[at + 1],
-            self.bytes[at + 2],
-            self.bytes[at + 3],
-        ]))
+        Some(word_at(&self.bytes, index_of(place, address)))
     }
 
     /// The number that so many bytes from an address on are, least first; `None` exactly where they can't be read. The
     /// address is a multiple of their count.
+    #[inline(always)]
     pub fn load(&mut self, address: u64, width: u64) -> Option<u64>
         requires width { IsTrue (is_access_width width) }
         requires aligned { address % width ≡ 0 }
@@ -101,6 +97,7 @@ impl Memory {
 
     /// Stores the low bytes of a number from an address on, least first, where that is let through, and says whether it was.
     /// The address is a multiple of their count.
+    #[inline(always)]
     pub fn store(&mut self, address: u64, width: u64, value: u64) -> bool
         requires width { IsTrue (is_access_width width) }
         requires aligned { address % width ≡ 0 }
@@ -180,6 +177,7 @@ fn count_on_page(address: u64, count: u64) -> u64
 }
 
 /// The index of the byte at an address of the page at a place.
+#[inline(always)]
 fn index_of(place: usize, address: u64) -> usize
     requires { place < 2 ^ 51 }
     ensures { result ≡ 4096 * place + address % 4096 }
@@ -187,8 +185,20 @@ fn index_of(place: usize, address: u64) -> usize
     PAGE_LEN * place + (address % PAGE_BYTES) as usize
 }
 
+/// The word that four bytes from an index on are, least first. They are read at once.
+#[inline(always)]
+fn word_at(bytes: &[u8], at: usize) -> u32
+    requires within { at + 4 ≤ length bytes.now }
+    ensures { result ≡ from_little_endian (take 4 (drop at bytes.now)) }
+{
+    let mut word = [0; 4];
+    word.copy_from_slice(&bytes[at..at + 4]);
+    u32::from_le_bytes(word)
+}
+
 /// The number that so many bytes from an index on are, least first. Each width that an access may have stands as a literal,
 /// so that its bytes are read at once.
+#[inline(always)]
 fn number_of_width(bytes: &[u8], at: usize, width: u64) -> u64
     requires width { IsTrue (is_access_width width) }
     requires within { at + width ≤ length bytes.now }
@@ -204,6 +214,7 @@ fn number_of_width(bytes: &[u8], at: usize, width: u64) -> u64
 }
 
 /// Puts the low bytes of a number from an index on, least first, likewise.
+#[inline(always)]
 fn put_of_width(bytes: &mut [u8], at: usize, width: u64, value: u64)
     requires width { IsTrue (is_access_width width) }
     requires within { at + width ≤ length bytes.old }
@@ -219,6 +230,7 @@ fn put_of_width(bytes: &mut [u8], at: usize, width: u64, value: u64)
 }
 
 /// The number that so many bytes from an index on are, least first.
+#[inline(always)]
 fn number_at(bytes: &[u8], at: usize, width: usize) -> u64
     requires width { width ≤ 8 }
     requires within { at + width ≤ length bytes.now }
@@ -230,6 +242,7 @@ fn number_at(bytes: &[u8], at: usize, width: usize) -> u64
 }
 
 /// Puts the low bytes of a number from an index on, least first.
+#[inline(always)]
 fn put_number(bytes: &mut [u8], at: usize, width: usize, value: u64)
     requires width { width ≤ 8 }
     requires within { at + width ≤ length bytes.old }
@@ -239,6 +252,7 @@ fn put_number(bytes: &mut [u8], at: usize, width: usize, value: u64)
 }
 
 /// The place of an address's page, where an access of this kind is let through. Looks at `first` before it searches.
+#[inline(always)]
 fn granting(entries: &[PageEntry], first: usize, address: u64, want: Want) -> Option<usize>
     requires { IsRising entries.now }
     ensures { MatchOption result ((bytes : List ℕ) → permits (pages_of entries.now bytes) address want ≡ false) (IsGrantedAt entries.now address want) }
@@ -257,6 +271,7 @@ fn granting(entries: &[PageEntry], first: usize, address: u64, want: Want) -> Op
 }
 
 /// Whether bits 63 to 39 of an address equal bit 38.
+#[inline(always)]
 fn is_canonical(address: u64) -> bool
     ensures { result ≡ is_canonical address }
 {
@@ -265,6 +280,7 @@ fn is_canonical(address: u64) -> bool
 }
 
 /// The place of the entry of a page, where one has it. Looks at `first` before it searches.
+#[inline(always)]
 fn place_near(entries: &[PageEntry], first: usize, page: u64) -> Option<usize>
     requires { IsRising entries.now }
     ensures { MatchOption result (Lacks entries.now page) (IsPlaceOf entries.now page) }

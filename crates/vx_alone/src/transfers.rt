@@ -1,17 +1,19 @@
 //! Vector loads and stores, from element to element.
 
 ghost use Rattle.std.specs.List.{Contains};
-ghost use Rattle.std.specs.Prelude.{◌≡◌, ◌<◌, [], ◌∷◌, IfSome, None, MatchOption, option_map};
+ghost use Rattle.std.specs.Prelude.{◌≡◌, ◌<◌, ◌≤◌, [], ◌∷◌, IfSome, IsTrue, None, MatchOption, option_map};
 ghost use Rattle.vx_alone.specs.Transfers.{after_loading, after_stores, failure_from, stop_of};
 ghost use Rattle.vx_flat.specs.Transfers.{failure_of, first_failure, is_fault_only_first};
 ghost use Rattle.vx_flat.specs.Transfers.Direction.{Loading, Storing};
+ghost use Rattle.vx_scalar.specs.Operands.{is_access_width};
 ghost use Rattle.vx_vaddr.specs.Items.{access_of_item, accesses_of_items};
 ghost use Rattle.vx_vaddr.specs.Views.{movement_with};
-ghost use Rattle.vx_vector.specs.Accesses.{Access, access_list, accesses_between, movement_count};
+ghost use Rattle.vx_vector.specs.Accesses.{Access, access_list, accesses_between, accesses_of_element, fields_of, movement_count};
 ghost use Rattle.vx_vector.specs.Movements.{IsPlacedAccess, IsSoundMovement};
 ghost use Rattle.vx_vstate.specs.Views.{view_of};
 
-use crate::failures::{Failed, first_failing};
+use crate::alone::is_aligned;
+use crate::failures::{Failed, failed_by, first_failing, misaligned, page_fault};
 use crate::memory::Memory;
 use vx_base::Want;
 use vx_rows::Addressing;
@@ -79,6 +81,93 @@ fn load_element(v: &mut VState, memory: &mut Memory, items: &[Item]) -> Option<F
     None
 }
 
+/// Does an access of a load, unless it fails: then that is told, and nothing is done. Its page is looked at once.
+#[inline(always)]
+fn load_at(v: &mut VState, memory: &mut Memory, item: &Item, width: u64) -> Option<Failed>
+    requires width { width ≡ item.now.width }
+    requires is_width { IsTrue (is_access_width width) }
+    requires placed { IsPlacedAccess v.old.vlen (access_of_item item.now) }
+    ensures memory { memory.new ≡ memory.old }
+    ensures failure { option_map failure_from result ≡ first_failure Loading memory.old (access_of_item item.now ∷ []) }
+    ensures loaded { MatchOption result (v.new ≡ after_loading memory.old v.old (access_of_item item.now ∷ [])) (λ failed. v.new ≡ v.old) }
+{
+    if !is_aligned(item.address, width) {
+        return Some(failed_by(item, misaligned(Want::Load)));
+    }
+    let Some(number) = memory.load(item.address, width) else {
+        return Some(failed_by(item, page_fault(Want::Load)));
+    };
+    put_loaded(v, item, number);
+    None
+}
+
+/// The same by the width of the access. Each that it may have stands as a literal.
+#[inline(always)]
+fn load_one(v: &mut VState, memory: &mut Memory, item: &Item) -> Option<Failed>
+    requires placed { IsPlacedAccess v.old.vlen (access_of_item item.now) }
+    ensures memory { memory.new ≡ memory.old }
+    ensures failure { option_map failure_from result ≡ first_failure Loading memory.old (access_of_item item.now ∷ []) }
+    ensures loaded { MatchOption result (v.new ≡ after_loading memory.old v.old (access_of_item item.now ∷ [])) (λ failed. v.new ≡ v.old) }
+{
+    match item.width {
+        1 => load_at(v, memory, item, 1),
+        2 => load_at(v, memory, item, 2),
+        4 => load_at(v, memory, item, 4),
+        _ => load_at(v, memory, item, u64::from(item.width)),
+    }
+}
+
+/// Does the access of an element of a load that has one field, unless it fails: then that is told, and nothing is done.
+#[inline(always)]
+fn load_only<S: WordFile>(
+    pattern: &AccessPattern,
+    file: &S,
+    i: u32,
+    v: &mut VState,
+    memory: &mut Memory,
+) -> Option<Failed>
+    requires same { S.vlen file.now ≡ (movement_with pattern.now (S.words file.now)).at.vlen }
+    requires sound { IsSoundMovement (movement_with pattern.now (S.words file.now)) }
+    requires started { (movement_with pattern.now (S.words file.now)).at.vstart ≤ i }
+    requires among { i < movement_count (movement_with pattern.now (S.words file.now)) }
+    requires one { fields_of (movement_with pattern.now (S.words file.now)) ≡ 1 }
+    requires placed { (a : Access) → Contains (accesses_of_element (movement_with pattern.now (S.words file.now)) i) a → IsPlacedAccess v.old.vlen a }
+    ensures memory { memory.new ≡ memory.old }
+    ensures failure { option_map failure_from result ≡ first_failure Loading memory.old (accesses_of_element (movement_with pattern.now (S.words file.now)) i) }
+    ensures loaded { MatchOption result (v.new ≡ after_loading memory.old v.old (accesses_of_element (movement_with pattern.now (S.words file.now)) i)) (λ failed. v.new ≡ v.old) }
+{
+    let Some(item) = pattern.only(file, i) else {
+        return None;
+    };
+    load_one(v, memory, &item)
+}
+
+/// Does the accesses of an element of a load, unless one fails: the first that does is told, and none is done.
+#[inline(always)]
+fn load_next<S: WordFile>(
+    pattern: &AccessPattern,
+    file: &S,
+    i: u32,
+    list: &mut AccessList,
+    v: &mut VState,
+    memory: &mut Memory,
+) -> Option<Failed>
+    requires same { S.vlen file.now ≡ (movement_with pattern.now (S.words file.now)).at.vlen }
+    requires sound { IsSoundMovement (movement_with pattern.now (S.words file.now)) }
+    requires started { (movement_with pattern.now (S.words file.now)).at.vstart ≤ i }
+    requires among { i < movement_count (movement_with pattern.now (S.words file.now)) }
+    requires placed { (a : Access) → Contains (accesses_of_element (movement_with pattern.now (S.words file.now)) i) a → IsPlacedAccess v.old.vlen a }
+    ensures memory { memory.new ≡ memory.old }
+    ensures failure { option_map failure_from result ≡ first_failure Loading memory.old (accesses_of_element (movement_with pattern.now (S.words file.now)) i) }
+    ensures loaded { MatchOption result (v.new ≡ after_loading memory.old v.old (accesses_of_element (movement_with pattern.now (S.words file.now)) i)) (λ failed. v.new ≡ v.old) }
+{
+    if pattern.has_one_field() {
+        return load_only(pattern, file, i, v, memory);
+    }
+    pattern.fill(file, i, list);
+    load_element(v, memory, list.slice())
+}
+
 /// Loads the elements from vstart on, up to one of which an access fails: that is told, and nothing of its element is done.
 /// The indices and the mask are read from a file that stays as it is.
 pub fn load_elements<S: WordFile>(
@@ -102,8 +191,7 @@ pub fn load_elements<S: WordFile>(
     let mut list = AccessList::new();
     let mut i = at.vstart.min(count);
     while i < count {
-        pattern.fill(file, i, &mut list);
-        if let Some(failed) = load_element(v, memory, list.slice()) {
+        if let Some(failed) = load_next(pattern, file, i, &mut list, v, memory) {
             return Some(failed);
         }
         i += 1;
@@ -153,6 +241,100 @@ fn store_element(v: &VState, at: &Setting, memory: &mut Memory, items: &[Item]) 
     None
 }
 
+/// Does an access of a store, unless it fails: then that is told, and nothing is done. Its page is looked at once.
+#[inline(always)]
+fn store_at(
+    v: &VState,
+    at: &Setting,
+    memory: &mut Memory,
+    item: &Item,
+    width: u64,
+) -> Option<Failed>
+    requires same { v.now.vlen ≡ at.now.vlen }
+    requires width { width ≡ item.now.width }
+    requires is_width { IsTrue (is_access_width width) }
+    requires placed { IsPlacedAccess v.now.vlen (access_of_item item.now) }
+    ensures failure { option_map failure_from result ≡ first_failure Storing memory.old (access_of_item item.now ∷ []) }
+    ensures stored { MatchOption result (memory.new ≡ after_stores v.now.vlen v.now.words memory.old (access_of_item item.now ∷ [])) (λ failed. memory.new ≡ memory.old) }
+{
+    if !is_aligned(item.address, width) {
+        return Some(failed_by(item, misaligned(Want::Store)));
+    }
+    let value = stored_value(v, at, item);
+    if memory.store(item.address, width, value) {
+        None
+    } else {
+        Some(failed_by(item, page_fault(Want::Store)))
+    }
+}
+
+/// The same by the width of the access. Each that it may have stands as a literal.
+#[inline(always)]
+fn store_one(v: &VState, at: &Setting, memory: &mut Memory, item: &Item) -> Option<Failed>
+    requires same { v.now.vlen ≡ at.now.vlen }
+    requires placed { IsPlacedAccess v.now.vlen (access_of_item item.now) }
+    ensures failure { option_map failure_from result ≡ first_failure Storing memory.old (access_of_item item.now ∷ []) }
+    ensures stored { MatchOption result (memory.new ≡ after_stores v.now.vlen v.now.words memory.old (access_of_item item.now ∷ [])) (λ failed. memory.new ≡ memory.old) }
+{
+    match item.width {
+        1 => store_at(v, at, memory, item, 1),
+        2 => store_at(v, at, memory, item, 2),
+        4 => store_at(v, at, memory, item, 4),
+        _ => store_at(v, at, memory, item, u64::from(item.width)),
+    }
+}
+
+/// Does the access of an element of a store that has one field, unless it fails: then that is told, and nothing is done.
+#[inline(always)]
+fn store_only(
+    pattern: &AccessPattern,
+    i: u32,
+    v: &VState,
+    at: &Setting,
+    memory: &mut Memory,
+) -> Option<Failed>
+    requires same { v.now.vlen ≡ at.now.vlen }
+    requires setting { (movement_with pattern.now v.now.words).at ≡ view_of at.now }
+    requires sound { IsSoundMovement (movement_with pattern.now v.now.words) }
+    requires started { (movement_with pattern.now v.now.words).at.vstart ≤ i }
+    requires among { i < movement_count (movement_with pattern.now v.now.words) }
+    requires one { fields_of (movement_with pattern.now v.now.words) ≡ 1 }
+    requires placed { (a : Access) → Contains (accesses_of_element (movement_with pattern.now v.now.words) i) a → IsPlacedAccess v.now.vlen a }
+    ensures failure { option_map failure_from result ≡ first_failure Storing memory.old (accesses_of_element (movement_with pattern.now v.now.words) i) }
+    ensures stored { MatchOption result (memory.new ≡ after_stores v.now.vlen v.now.words memory.old (accesses_of_element (movement_with pattern.now v.now.words) i)) (λ failed. memory.new ≡ memory.old) }
+{
+    let Some(item) = pattern.only(v, i) else {
+        return None;
+    };
+    store_one(v, at, memory, &item)
+}
+
+/// Does the accesses of an element of a store, unless one fails: the first that does is told, and none is done.
+#[inline(always)]
+fn store_next(
+    pattern: &AccessPattern,
+    i: u32,
+    list: &mut AccessList,
+    v: &VState,
+    at: &Setting,
+    memory: &mut Memory,
+) -> Option<Failed>
+    requires same { v.now.vlen ≡ at.now.vlen }
+    requires setting { (movement_with pattern.now v.now.words).at ≡ view_of at.now }
+    requires sound { IsSoundMovement (movement_with pattern.now v.now.words) }
+    requires started { (movement_with pattern.now v.now.words).at.vstart ≤ i }
+    requires among { i < movement_count (movement_with pattern.now v.now.words) }
+    requires placed { (a : Access) → Contains (accesses_of_element (movement_with pattern.now v.now.words) i) a → IsPlacedAccess v.now.vlen a }
+    ensures failure { option_map failure_from result ≡ first_failure Storing memory.old (accesses_of_element (movement_with pattern.now v.now.words) i) }
+    ensures stored { MatchOption result (memory.new ≡ after_stores v.now.vlen v.now.words memory.old (accesses_of_element (movement_with pattern.now v.now.words) i)) (λ failed. memory.new ≡ memory.old) }
+{
+    if pattern.has_one_field() {
+        return store_only(pattern, i, v, at, memory);
+    }
+    pattern.fill(v, i, list);
+    store_element(v, at, memory, list.slice())
+}
+
 /// Stores the elements from vstart on, up to one of which an access fails: that is told, and nothing of its element is done.
 pub fn store_elements(
     pattern: &AccessPattern,
@@ -172,8 +354,7 @@ pub fn store_elements(
     let mut list = AccessList::new();
     let mut i = at.vstart.min(count);
     while i < count {
-        pattern.fill(v, i, &mut list);
-        if let Some(failed) = store_element(v, at, memory, list.slice()) {
+        if let Some(failed) = store_next(pattern, i, &mut list, v, at, memory) {
             return Some(failed);
         }
         i += 1;

@@ -162,6 +162,7 @@ fn word_of_form<S: WordFile>(form: Form, file: &S, at: &Setting, regs: &Places, 
 /// Word `w` of the destination, counted from its first register on, as an instruction leaves it: active elements are the
 /// operation's results, and all others stay. Whether an element of it saturated: none does. The operation is one of this
 /// crate, and the instruction is legal under the setting.
+#[inline(always)]
 pub fn word<S: WordFile>(op: Op, at: &Setting, file: &S, regs: &Places, w: u32) -> Word
     requires row { IsTrue (is_elem op) }
     requires same { S.vlen file.now ≡ at.now.vlen }

@@ -6,6 +6,7 @@ ghost use Rattle.vx_exec.specs.Runs.{with_words};
 ghost use Rattle.vx_mask.specs.Kinds.{is_telling};
 ghost use Rattle.vx_packed.specs.Joined.{some_below};
 ghost use Rattle.vx_rows.specs.Table.{class_of};
+ghost use Rattle.vx_rows.specs.declared.op.Op.TheVariants.{Elem, Perm};
 ghost use Rattle.vx_rows.specs.declared.row.Class.TheVariants.{VectorArithmetic};
 ghost use Rattle.vx_vector.specs.Arithmetic.{saturates, told, words_after};
 ghost use Rattle.vx_vector.specs.Laws.{word_saturates};
@@ -14,11 +15,11 @@ ghost use Rattle.vx_vstate.specs.Registers.{place_of, with_word, word_at, words_
 ghost use Rattle.vx_vstate.specs.State.{finished, setting_of};
 ghost use Rattle.vx_vstate.specs.Views.{view_of};
 
-use crate::executed::{reads_soundly, scalar_of, word_of};
+use crate::executed::{reads_soundly, scalar_of, word_by};
 use crate::run::{Run, is_telling, run_by};
 use std::alloc::{AllocError, Global};
 use vx_decode::Instr;
-use vx_rows::Family;
+use vx_rows::{ElemOp, Family, Op, PermOp};
 use vx_vector::{other_words_stay, words_are_made};
 use vx_vstate::{Setting, VState};
 
@@ -96,9 +97,11 @@ fn either(a: bool, b: bool) -> bool
     a || b
 }
 
-/// Makes the words of a run of an instruction's destination, and answers whether an active element of them saturated.
+/// Makes the words of a run of an instruction's destination, and answers whether an active element of them saturated. The
+/// operation is named, so that the loop goes through no dispatch where it is known.
 #[inline(always)]
-fn make(i: &Instr, at: &Setting, v: &VState, run: Run, made: &mut [u64]) -> bool
+fn make_of(op: Op, i: &Instr, at: &Setting, v: &VState, run: Run, made: &mut [u64]) -> bool
+    requires operation { op ≡ i.now.op }
     requires same { v.now.vlen ≡ at.now.vlen }
     requires executable { IsExecutable i.now (view_of at.now) }
     requires within { (k : ℕ) → k < run.count → run.first + k < length (destination_words (reads i.now (view_of at.now) v.now.words)) }
@@ -110,11 +113,95 @@ fn make(i: &Instr, at: &Setting, v: &VState, run: Run, made: &mut [u64]) -> bool
 {
     let mut sat = false;
     for k in 0..run.count {
-        let word = word_of(i, at, v, run.first + k);
+        let word = word_by(op, i, at, v, run.first + k);
         made[k as usize] = word.value;
         sat = either(sat, word.sat);
     }
     sat
+}
+
+/// The same for operations of elements of one width: those that programs use most have a loop of their own.
+fn make_elements(
+    op: ElemOp,
+    i: &Instr,
+    at: &Setting,
+    v: &VState,
+    run: Run,
+    made: &mut [u64],
+) -> bool
+    requires operation { Elem op ≡ i.now.op }
+    requires same { v.now.vlen ≡ at.now.vlen }
+    requires executable { IsExecutable i.now (view_of at.now) }
+    requires within { (k : ℕ) → k < run.count → run.first + k < length (destination_words (reads i.now (view_of at.now) v.now.words)) }
+    requires small { (k : ℕ) → k < run.count → run.first + k < 1024 }
+    requires room { run.count ≤ length made.old }
+    ensures room { length made.new ≡ length made.old }
+    ensures made { (k : ℕ) → k < run.count → slice_index made.new k ≡ word_at at.now.vlen (words_after (reads i.now (view_of at.now) v.now.words)) i.now.rd (run.first + k) }
+    ensures sat { result ≡ some_below run.count (λ k. word_saturates (reads i.now (view_of at.now) v.now.words) (run.first + k)) }
+{
+    match op {
+        ElemOp::VaddVv => make_of(Op::Elem(ElemOp::VaddVv), i, at, v, run, made),
+        ElemOp::VaddVx => make_of(Op::Elem(ElemOp::VaddVx), i, at, v, run, made),
+        ElemOp::VaddVi => make_of(Op::Elem(ElemOp::VaddVi), i, at, v, run, made),
+        ElemOp::VsubVv => make_of(Op::Elem(ElemOp::VsubVv), i, at, v, run, made),
+        ElemOp::VandVv => make_of(Op::Elem(ElemOp::VandVv), i, at, v, run, made),
+        ElemOp::VandVi => make_of(Op::Elem(ElemOp::VandVi), i, at, v, run, made),
+        ElemOp::VorVv => make_of(Op::Elem(ElemOp::VorVv), i, at, v, run, made),
+        ElemOp::VxorVv => make_of(Op::Elem(ElemOp::VxorVv), i, at, v, run, made),
+        ElemOp::VsllVi => make_of(Op::Elem(ElemOp::VsllVi), i, at, v, run, made),
+        ElemOp::VsrlVi => make_of(Op::Elem(ElemOp::VsrlVi), i, at, v, run, made),
+        ElemOp::VmulVv => make_of(Op::Elem(ElemOp::VmulVv), i, at, v, run, made),
+        ElemOp::VmaccVv => make_of(Op::Elem(ElemOp::VmaccVv), i, at, v, run, made),
+        _ => make_of(Op::Elem(op), i, at, v, run, made),
+    }
+}
+
+/// The same for permutations.
+fn make_permuted(
+    op: PermOp,
+    i: &Instr,
+    at: &Setting,
+    v: &VState,
+    run: Run,
+    made: &mut [u64],
+) -> bool
+    requires operation { Perm op ≡ i.now.op }
+    requires same { v.now.vlen ≡ at.now.vlen }
+    requires executable { IsExecutable i.now (view_of at.now) }
+    requires within { (k : ℕ) → k < run.count → run.first + k < length (destination_words (reads i.now (view_of at.now) v.now.words)) }
+    requires small { (k : ℕ) → k < run.count → run.first + k < 1024 }
+    requires room { run.count ≤ length made.old }
+    ensures room { length made.new ≡ length made.old }
+    ensures made { (k : ℕ) → k < run.count → slice_index made.new k ≡ word_at at.now.vlen (words_after (reads i.now (view_of at.now) v.now.words)) i.now.rd (run.first + k) }
+    ensures sat { result ≡ some_below run.count (λ k. word_saturates (reads i.now (view_of at.now) v.now.words) (run.first + k)) }
+{
+    match op {
+        PermOp::VrgatherVv => make_of(Op::Perm(PermOp::VrgatherVv), i, at, v, run, made),
+        PermOp::VslideupVi => make_of(Op::Perm(PermOp::VslideupVi), i, at, v, run, made),
+        PermOp::VslidedownVi => make_of(Op::Perm(PermOp::VslidedownVi), i, at, v, run, made),
+        PermOp::VslidedownVx => make_of(Op::Perm(PermOp::VslidedownVx), i, at, v, run, made),
+        PermOp::Vslide1upVx => make_of(Op::Perm(PermOp::Vslide1upVx), i, at, v, run, made),
+        PermOp::Vslide1downVx => make_of(Op::Perm(PermOp::Vslide1downVx), i, at, v, run, made),
+        _ => make_of(Op::Perm(op), i, at, v, run, made),
+    }
+}
+
+/// Makes the words of a run of an instruction's destination, and answers whether an active element of them saturated.
+fn make(i: &Instr, at: &Setting, v: &VState, run: Run, made: &mut [u64]) -> bool
+    requires same { v.now.vlen ≡ at.now.vlen }
+    requires executable { IsExecutable i.now (view_of at.now) }
+    requires within { (k : ℕ) → k < run.count → run.first + k < length (destination_words (reads i.now (view_of at.now) v.now.words)) }
+    requires small { (k : ℕ) → k < run.count → run.first + k < 1024 }
+    requires room { run.count ≤ length made.old }
+    ensures room { length made.new ≡ length made.old }
+    ensures made { (k : ℕ) → k < run.count → slice_index made.new k ≡ word_at at.now.vlen (words_after (reads i.now (view_of at.now) v.now.words)) i.now.rd (run.first + k) }
+    ensures sat { result ≡ some_below run.count (λ k. word_saturates (reads i.now (view_of at.now) v.now.words) (run.first + k)) }
+{
+    match i.op {
+        Op::Elem(op) => make_elements(op, i, at, v, run, made),
+        Op::Perm(op) => make_permuted(op, i, at, v, run, made),
+        _ => make_of(i.op, i, at, v, run, made),
+    }
 }
 
 /// Puts words into a run of a group that begins at a register.

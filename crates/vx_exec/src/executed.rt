@@ -58,14 +58,27 @@ pub fn word_of<S: WordFile>(i: &Instr, at: &Setting, file: &S, w: u32) -> Word
     ensures value { result.value ≡ word_at at.now.vlen (words_after (reads i.now (view_of at.now) (S.words file.now))) i.now.rd w }
     ensures sat { result.sat ≡ word_saturates (reads i.now (view_of at.now) (S.words file.now)) w }
 {
+    word_by(i.op, i, at, file, w)
+}
+
+/// The same, where the operation is known: code that names it has its own copy of the way to it.
+#[inline(always)]
+pub(crate) fn word_by<S: WordFile>(op: Op, i: &Instr, at: &Setting, file: &S, w: u32) -> Word
+    requires operation { op ≡ i.now.op }
+    requires same { S.vlen file.now ≡ at.now.vlen }
+    requires executable { IsExecutable i.now (view_of at.now) }
+    requires within { w < length (destination_words (reads i.now (view_of at.now) (S.words file.now))) }
+    ensures value { result.value ≡ word_at at.now.vlen (words_after (reads i.now (view_of at.now) (S.words file.now))) i.now.rd w }
+    ensures sat { result.sat ≡ word_saturates (reads i.now (view_of at.now) (S.words file.now)) w }
+{
     reads_soundly(i, at, file);
     let regs = places(i);
-    match i.op {
-        Op::Elem(_) => vx_elem::word(i.op, at, file, &regs, w),
-        Op::Widen(_) => vx_widen::word(i.op, at, file, &regs, w),
-        Op::Fixed(_) => vx_fixed::word(i.op, at, file, &regs, w),
-        Op::Mask(_) => vx_mask::word(i.op, at, file, &regs, w),
-        Op::Perm(_) => vx_perm::word(i.op, at, file, &regs, w),
+    match op {
+        Op::Elem(_) => vx_elem::word(op, at, file, &regs, w),
+        Op::Widen(_) => vx_widen::word(op, at, file, &regs, w),
+        Op::Fixed(_) => vx_fixed::word(op, at, file, &regs, w),
+        Op::Mask(_) => vx_mask::word(op, at, file, &regs, w),
+        Op::Perm(_) => vx_perm::word(op, at, file, &regs, w),
         Op::Scalar(_) | Op::Set(_) | Op::Memory(_) => unreachable!(),
     }
 }

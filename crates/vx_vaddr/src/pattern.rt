@@ -1,4 +1,4 @@
-ghost use Rattle.std.specs.Prelude.{◌≡◌, ◌<◌, ◌≤◌, ℕ, ◌+◌, ◌*◌, ◌%◌, ◌^◌, [], List};
+ghost use Rattle.std.specs.Prelude.{◌≡◌, ◌<◌, ◌≤◌, ℕ, ◌+◌, ◌*◌, ◌%◌, ◌^◌, ◌==◌, false, [], List, option_to_list};
 ghost use Rattle.vx_vaddr.specs.Movements.{movement};
 ghost use Rattle.vx_vaddr.specs.Patterns.{IsPattern};
 ghost use Rattle.vx_vstate.specs.Views.{view_of};
@@ -88,6 +88,22 @@ impl AccessPattern {
         self.count
     }
 
+    /// Whether an element has one field.
+    #[inline(always)]
+    pub fn has_one_field(&self) -> bool
+        ensures { (words : List ℕ) → result ≡ (fields_of (movement_with self.now words) == 1) }
+    {
+        self.fields == 1
+    }
+
+    /// Whether accesses depend on words of the registers: on a mask, or on indices.
+    #[inline(always)]
+    pub fn needs_words(&self) -> bool
+        ensures { result ≡ false → (words others : List ℕ) (i : ℕ) → accesses_of_element (movement_with self.now words) i ≡ accesses_of_element (movement_with self.now others) i }
+    {
+        !self.i.vm || self.index_width != 0
+    }
+
     /// Whether an element takes part.
     #[inline(always)]
     fn takes_part<S: WordFile>(&self, file: &S, i: u32) -> bool
@@ -151,6 +167,23 @@ impl AccessPattern {
         for field in 0..self.fields {
             list.push(self.item(first, i, field));
         }
+    }
+
+    /// The access of an element that has one field; none where a mask leaves it out.
+    #[inline(always)]
+    pub fn only<S: WordFile>(&self, file: &S, i: u32) -> Option<Item>
+        requires same { S.vlen file.now ≡ self.now.at.vlen }
+        requires sound { IsSoundMovement (movement_with self.now (S.words file.now)) }
+        requires started { self.now.at.vstart ≤ i }
+        requires among { i < movement_count (movement_with self.now (S.words file.now)) }
+        requires one { fields_of (movement_with self.now (S.words file.now)) ≡ 1 }
+        ensures { accesses_of_items (option_to_list result) ≡ accesses_of_element (movement_with self.now (S.words file.now)) i }
+    {
+        if !self.takes_part(file, i) {
+            return None;
+        }
+        let first = self.base.wrapping_add(self.offset(file, i));
+        Some(self.item(first, i, 0))
     }
 
     /// Fills a list with the next batch from an element on, and answers the element after it.

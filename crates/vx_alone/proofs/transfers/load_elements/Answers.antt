@@ -1,11 +1,9 @@
 -- One element more, the end, and an element of which an access fails.
-use Rattle.std.proofs.Common.{◌≡◌, ℕ, ◌<◌, ◌≤◌, min, List, sym, ap, ◌∙◌, subst, arith}
-use Rattle.std.specs.List.{Contains}
+use Rattle.std.proofs.Common.{◌≡◌, ℕ, ◌<◌, ◌≤◌, min, refl, sym, ap, ◌∙◌, subst, arith}
 use Rattle.vx_flat.specs.Transfers.{first_failure}
 use Rattle.vx_flat.specs.Transfers.Direction.{Loading}
-use Rattle.vx_vaddr.specs.Items.{accesses_of_items}
 use Rattle.vx_vaddr.specs.Views.{movement_with}
-use Rattle.vx_vector.specs.Accesses.{Access, Movement, accesses_between, accesses_of_element, movement_count}
+use Rattle.vx_vector.specs.Accesses.{Movement, accesses_between, accesses_of_element, movement_count}
 use Rattle.vx_vector.specs.Movements.{IsPlacedAccess}
 use Rattle.vx_vstate.specs.State.{SettingView, VectorState}
 use Rattle.vx_alone.specs.Transfers.{after_loading}
@@ -21,24 +19,20 @@ loop-i-init g c =
     let first : c.min-i.result ≡ min m.at.vstart (movement_count m) = omega (arith, c.min-i.ensures) in
     loaded-first m c.args.memory.now c.args.v.now c.min-i.result first
 
-pub load_element-requires : goal.load_element-requires
-load_element-requires g c =
+pub load_next-requires-clause-placed : goal.load_next-requires-clause-placed
+load_next-requires-clause-placed g c =
     let m : Movement = movement_with c.args.pattern.now (g.S.WordFile.words c.args.file.now) in
     let count : c.count-count.result ≡ movement_count m = c.count-count.ensures (g.S.WordFile.words c.args.file.now) in
     let below : c.loop-i.i < movement_count m = subst (λ (n : ℕ). c.loop-i.i < n) count c.loop-i-test.true in
     let length : m.at.vlen ≡ c.loop-i.v.vlen = ap (λ (s : SettingView). s.vlen) c.requires.setting ∙ sym (ap (λ (s : VectorState). s.vlen) c.loop-i.invariant.done ∙ c.requires.length) in
-    let are : accesses_of_items c.slice.result.now ≡ accesses_of_element m c.loop-i.i = ap accesses_of_items c.slice.ensures ∙ c.fill.ensures in
-    record {
-      placed = λ a h. subst (λ (n : ℕ). IsPlacedAccess n a) length (c.legal_movements_are_sound.ensures.placed m a c.requires.sound (among-all m c.loop-i.i a below (subst (λ (xs : List Access). Contains xs a) are h)));
-    }
+    λ a h. subst (λ (n : ℕ). IsPlacedAccess n a) length (c.legal_movements_are_sound.ensures.placed m a c.requires.sound (among-all m c.loop-i.i a below h))
 
 pub returns-in-Some-clause-failure : goal.returns-in-Some-clause-failure
 returns-in-Some-clause-failure g c =
     let m : Movement = movement_with c.args.pattern.now (g.S.WordFile.words c.args.file.now) in
     let count : c.count-count.result ≡ movement_count m = c.count-count.ensures (g.S.WordFile.words c.args.file.now) in
     let below : c.loop-i.i < movement_count m = subst (λ (n : ℕ). c.loop-i.i < n) count c.loop-i-test.true in
-    let are : accesses_of_items c.slice.result.now ≡ accesses_of_element m c.loop-i.i = ap accesses_of_items c.slice.ensures ∙ c.fill.ensures in
-    let s : IsStopped Loading m c.args.memory.now c.loop-i.i c.in-Some.failed = loaded-stopped m c.args.memory.now c.loop-i.memory c.args.v.now c.loop-i.v c.loop-i.i c.in-Some.failed (accesses_of_items c.slice.result.now) below are c.in-Some.ensures.failure c.loop-i.invariant in
+    let s : IsStopped Loading m c.args.memory.now c.loop-i.i c.in-Some.failed = loaded-stopped m c.args.memory.now c.loop-i.memory c.args.v.now c.loop-i.v c.loop-i.i c.in-Some.failed (accesses_of_element m c.loop-i.i) below refl c.in-Some.ensures.failure c.loop-i.invariant in
     s.failure
 
 pub returns-in-Some-clause-among : goal.returns-in-Some-clause-among
@@ -46,8 +40,7 @@ returns-in-Some-clause-among g c =
     let m : Movement = movement_with c.args.pattern.now (g.S.WordFile.words c.args.file.now) in
     let count : c.count-count.result ≡ movement_count m = c.count-count.ensures (g.S.WordFile.words c.args.file.now) in
     let below : c.loop-i.i < movement_count m = subst (λ (n : ℕ). c.loop-i.i < n) count c.loop-i-test.true in
-    let are : accesses_of_items c.slice.result.now ≡ accesses_of_element m c.loop-i.i = ap accesses_of_items c.slice.ensures ∙ c.fill.ensures in
-    let s : IsStopped Loading m c.args.memory.now c.loop-i.i c.in-Some.failed = loaded-stopped m c.args.memory.now c.loop-i.memory c.args.v.now c.loop-i.v c.loop-i.i c.in-Some.failed (accesses_of_items c.slice.result.now) below are c.in-Some.ensures.failure c.loop-i.invariant in
+    let s : IsStopped Loading m c.args.memory.now c.loop-i.i c.in-Some.failed = loaded-stopped m c.args.memory.now c.loop-i.memory c.args.v.now c.loop-i.v c.loop-i.i c.in-Some.failed (accesses_of_element m c.loop-i.i) below refl c.in-Some.ensures.failure c.loop-i.invariant in
     s.among
 
 pub returns-in-Some-clause-loaded : goal.returns-in-Some-clause-loaded
@@ -55,8 +48,7 @@ returns-in-Some-clause-loaded g c =
     let m : Movement = movement_with c.args.pattern.now (g.S.WordFile.words c.args.file.now) in
     let count : c.count-count.result ≡ movement_count m = c.count-count.ensures (g.S.WordFile.words c.args.file.now) in
     let below : c.loop-i.i < movement_count m = subst (λ (n : ℕ). c.loop-i.i < n) count c.loop-i-test.true in
-    let are : accesses_of_items c.slice.result.now ≡ accesses_of_element m c.loop-i.i = ap accesses_of_items c.slice.ensures ∙ c.fill.ensures in
-    let s : IsStopped Loading m c.args.memory.now c.loop-i.i c.in-Some.failed = loaded-stopped m c.args.memory.now c.loop-i.memory c.args.v.now c.loop-i.v c.loop-i.i c.in-Some.failed (accesses_of_items c.slice.result.now) below are c.in-Some.ensures.failure c.loop-i.invariant in
+    let s : IsStopped Loading m c.args.memory.now c.loop-i.i c.in-Some.failed = loaded-stopped m c.args.memory.now c.loop-i.memory c.args.v.now c.loop-i.v c.loop-i.i c.in-Some.failed (accesses_of_element m c.loop-i.i) below refl c.in-Some.ensures.failure c.loop-i.invariant in
     c.in-Some.ensures.loaded ∙ c.loop-i.invariant.done ∙ ap (λ (n : ℕ). after_loading c.args.memory.now c.args.v.now (accesses_between m 0 n)) s.here
 
 pub loop-i-preserved : goal.loop-i-preserved
@@ -64,8 +56,7 @@ loop-i-preserved g c =
     let m : Movement = movement_with c.args.pattern.now (g.S.WordFile.words c.args.file.now) in
     let count : c.count-count.result ≡ movement_count m = c.count-count.ensures (g.S.WordFile.words c.args.file.now) in
     let below : c.loop-i.i < movement_count m = subst (λ (n : ℕ). c.loop-i.i < n) count c.loop-i-test.true in
-    let are : accesses_of_items c.slice.result.now ≡ accesses_of_element m c.loop-i.i = ap accesses_of_items c.slice.ensures ∙ c.fill.ensures in
-    loaded-more m c.args.memory.now c.loop-i.memory c.load_element.new.memory c.args.v.now c.loop-i.v c.load_element.new.v c.loop-i.i (accesses_of_items c.slice.result.now) below are c.in_default.ensures.memory c.in_default.ensures.failure c.in_default.ensures.loaded c.loop-i.invariant
+    loaded-more m c.args.memory.now c.loop-i.memory c.load_next.new.memory c.args.v.now c.loop-i.v c.load_next.new.v c.loop-i.i (accesses_of_element m c.loop-i.i) below refl c.in_default.ensures.memory c.in_default.ensures.failure c.in_default.ensures.loaded c.loop-i.invariant
 
 pub returns-clause-failure : goal.returns-clause-failure
 returns-clause-failure g c =
