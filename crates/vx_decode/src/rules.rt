@@ -46,148 +46,102 @@ pub fn legal(i: &Instr, at: &Setting) -> bool
     ensures { result ≡ not (is_illegal i.now (view_of at.now)) }
 {
     match i.op.class() {
-        Class::VectorArithmetic(family) => arithmetic(family, i, at),
+        Class::VectorArithmetic(family) => {
+            let operands = family.operands();
+            if are_single(operands) {
+                single_arithmetic(family, i.op.shape(), i, at)
+            } else {
+                arithmetic(family, operands, i.op.shape(), i, at)
+            }
+        }
         Class::VectorLoad(addressing, width) => load(addressing, width, i, at),
         Class::VectorStore(addressing, width) => store(addressing, width, i, at),
         class => !(at.is_ill() && !needs_none(class)),
     }
 }
 
-/// The operands of most rows: destination, `vs2` and `vs1` of one width, or those that widen or narrow. Where they are known, the
-/// rules come to little, so each has code of its own.
+/// The operands of most rows, for which the rules come to little once they are told apart.
 const SINGLE: Operands = Operands {
     destination: Operand::Single,
     vs2: Operand::Single,
     vs1: Operand::Single,
 };
 
-const WIDENING: Operands = Operands {
-    destination: Operand::Double,
-    vs2: Operand::Single,
-    vs1: Operand::Single,
-};
-
-const WIDE: Operands = Operands {
-    destination: Operand::Double,
-    vs2: Operand::Double,
-    vs1: Operand::Single,
-};
-
-const NARROWING: Operands = Operands {
-    destination: Operand::Single,
-    vs2: Operand::Double,
-    vs1: Operand::Single,
-};
-
-/// Whether a row of vector arithmetic is legal.
+/// Whether operands are those.
 #[inline(always)]
-fn arithmetic(family: Family, i: &Instr, at: &Setting) -> bool
-    requires { class_of i.now.op ≡ class.VectorArithmetic family }
-    ensures { result ≡ not (is_illegal i.now (view_of at.now)) }
+fn are_single(operands: Operands) -> bool
+    ensures destination { result ≡ true → operands.destination ≡ operand.Single }
+    ensures vs2 { result ≡ true → operands.vs2 ≡ operand.Single }
+    ensures vs1 { result ≡ true → operands.vs1 ≡ operand.Single }
 {
-    let operands = family.operands();
-    match operands.vs1 {
-        Operand::Single => by_destination(family, operands, i.op.shape(), i, at),
-        _ => by_operands(family, operands, i.op.shape(), i, at),
+    is_single(operands.destination) && is_single(operands.vs2) && is_single(operands.vs1)
+}
+
+#[inline(always)]
+fn is_single(o: Operand) -> bool
+    ensures { result ≡ true → o ≡ operand.Single }
+{
+    match o {
+        Operand::Single => true,
+        _ => false,
     }
 }
 
-/// The same where the source in the place of `vs1` is of SEW.
+/// Whether a row of vector arithmetic with those operands is legal: the common case, in code of its own.
 #[inline(always)]
-fn by_destination(family: Family, operands: Operands, shape: Shape, i: &Instr, at: &Setting) -> bool
+fn single_arithmetic(family: Family, shape: Shape, i: &Instr, at: &Setting) -> bool
     requires class { class_of i.now.op ≡ class.VectorArithmetic family }
     requires shape { shape_of i.now.op ≡ shape }
-    requires operands { operands ≡ operands_of family }
-    requires vs1 { operands.vs1 ≡ operand.Single }
-    ensures { result ≡ not (is_illegal i.now (view_of at.now)) }
-{
-    match operands.destination {
-        Operand::Single => single(family, operands, shape, i, at),
-        Operand::Double => double(family, operands, shape, i, at),
-        _ => by_operands(family, operands, shape, i, at),
-    }
-}
-
-/// The same where the destination too is of SEW.
-#[inline(always)]
-fn single(family: Family, operands: Operands, shape: Shape, i: &Instr, at: &Setting) -> bool
-    requires class { class_of i.now.op ≡ class.VectorArithmetic family }
-    requires shape { shape_of i.now.op ≡ shape }
-    requires operands { operands ≡ operands_of family }
-    requires vs1 { operands.vs1 ≡ operand.Single }
-    requires destination { operands.destination ≡ operand.Single }
-    ensures { result ≡ not (is_illegal i.now (view_of at.now)) }
-{
-    match operands.vs2 {
-        Operand::Single => by_shape(family, SINGLE, shape, i, at),
-        Operand::Double => by_shape(family, NARROWING, shape, i, at),
-        _ => by_operands(family, operands, shape, i, at),
-    }
-}
-
-/// The same where the destination is of 2 SEW.
-#[inline(always)]
-fn double(family: Family, operands: Operands, shape: Shape, i: &Instr, at: &Setting) -> bool
-    requires class { class_of i.now.op ≡ class.VectorArithmetic family }
-    requires shape { shape_of i.now.op ≡ shape }
-    requires operands { operands ≡ operands_of family }
-    requires vs1 { operands.vs1 ≡ operand.Single }
-    requires destination { operands.destination ≡ operand.Double }
-    ensures { result ≡ not (is_illegal i.now (view_of at.now)) }
-{
-    match operands.vs2 {
-        Operand::Single => by_shape(family, WIDENING, shape, i, at),
-        Operand::Double => by_shape(family, WIDE, shape, i, at),
-        _ => by_operands(family, operands, shape, i, at),
-    }
-}
-
-/// Whether a row of vector arithmetic with these operands is legal, by code for each of the usual shapes.
-#[inline(always)]
-fn by_shape(family: Family, operands: Operands, shape: Shape, i: &Instr, at: &Setting) -> bool
-    requires class { class_of i.now.op ≡ class.VectorArithmetic family }
-    requires shape { shape_of i.now.op ≡ shape }
-    requires destination { operands.destination ≡ (operands_of family).destination }
-    requires vs2 { operands.vs2 ≡ (operands_of family).vs2 }
-    requires vs1 { operands.vs1 ≡ (operands_of family).vs1 }
+    requires destination { (operands_of family).destination ≡ operand.Single }
+    requires vs2 { (operands_of family).vs2 ≡ operand.Single }
+    requires vs1 { (operands_of family).vs1 ≡ operand.Single }
     ensures { result ≡ not (is_illegal i.now (view_of at.now)) }
 {
     match shape {
         Shape::Vector(First::Vector, Second::Vector, vm) => {
-            let shape = Shape::Vector(First::Vector, Second::Vector, vm);
-            with_groups(family, operands, shape, i, at)
+            singles(
+                family,
+                Shape::Vector(First::Vector, Second::Vector, vm),
+                i,
+                at,
+            )
         }
         Shape::Vector(First::Integer, Second::Vector, vm) => {
-            let shape = Shape::Vector(First::Integer, Second::Vector, vm);
-            with_groups(family, operands, shape, i, at)
+            singles(
+                family,
+                Shape::Vector(First::Integer, Second::Vector, vm),
+                i,
+                at,
+            )
         }
-        _ => with_groups(family, operands, shape, i, at),
+        _ => singles(family, shape, i, at),
     }
 }
 
-/// Whether a row of vector arithmetic with these operands, of any shape, is legal.
+/// The same of one shape: where the shape is known, little of the rules is left.
 #[inline(always)]
-fn with_groups(family: Family, operands: Operands, shape: Shape, i: &Instr, at: &Setting) -> bool
+fn singles(family: Family, shape: Shape, i: &Instr, at: &Setting) -> bool
     requires class { class_of i.now.op ≡ class.VectorArithmetic family }
     requires shape { shape_of i.now.op ≡ shape }
-    requires destination { operands.destination ≡ (operands_of family).destination }
-    requires vs2 { operands.vs2 ≡ (operands_of family).vs2 }
-    requires vs1 { operands.vs1 ≡ (operands_of family).vs1 }
+    requires destination { (operands_of family).destination ≡ operand.Single }
+    requires vs2 { (operands_of family).vs2 ≡ operand.Single }
+    requires vs1 { (operands_of family).vs1 ≡ operand.Single }
     ensures { result ≡ not (is_illegal i.now (view_of at.now)) }
 {
-    let groups = arithmetic_groups(family, operands, shape, i, at);
+    let groups = arithmetic_groups(family, SINGLE, shape, i, at);
     obeys_all(i, at, &groups)
 }
 
-/// The same of operands that aren't known.
+/// Whether a row of vector arithmetic with these operands is legal.
 #[inline(never)]
-fn by_operands(family: Family, operands: Operands, shape: Shape, i: &Instr, at: &Setting) -> bool
+fn arithmetic(family: Family, operands: Operands, shape: Shape, i: &Instr, at: &Setting) -> bool
     requires class { class_of i.now.op ≡ class.VectorArithmetic family }
     requires shape { shape_of i.now.op ≡ shape }
     requires operands { operands ≡ operands_of family }
     ensures { result ≡ not (is_illegal i.now (view_of at.now)) }
 {
-    with_groups(family, operands, shape, i, at)
+    let groups = arithmetic_groups(family, operands, shape, i, at);
+    obeys_all(i, at, &groups)
 }
 
 /// Whether a vector load is legal.
