@@ -10,8 +10,8 @@ use Rattle.vx_base.specs.Permissions.{grants}
 use Rattle.vx_base.specs.declared.machine.Want.{Want}
 use Rattle.vx_base.specs.declared.perm.PageEntry.{PageEntry}
 use Rattle.vx_base.specs.declared.machine.Want.TheVariants.{Load}
-use Rattle.vx_image.specs.Pages.{Memory}
-use Rattle.vx_flat.specs.Memory.{page_of, is_canonical, permits, byte_at, bytes_at, next_address, all_permit, put_byte, put_bytes}
+use Rattle.vx_image.specs.Pages.{Memory, page_of, is_canonical, permits}
+use Rattle.vx_flat.specs.Memory.{byte_at, bytes_at, next_address, all_permit, put_byte, put_bytes}
 use Rattle.vx_flat.specs.Service.{is_readable}
 use Rattle.vx_scalar.specs.Operands.{is_access_width}
 use Rattle.vx_image.specs.Kept.{pages_of, entry_at, IsRising, IsPlaceOf, Lacks}

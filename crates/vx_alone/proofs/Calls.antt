@@ -9,7 +9,7 @@ use Rattle.vx_flat.specs.Process.{Process, after, stepped}
 use Rattle.vx_flat.specs.State.{Flat}
 use Rattle.vx_base.specs.declared.machine.Want.TheVariants.{Fetch}
 use Rattle.vx_decode.specs.Decoded.{decoded}
-use Rattle.vx_flat.specs.Memory.{permits}
+use Rattle.vx_image.specs.Pages.{permits}
 use Rattle.vx_flat.specs.Outcome.{faulted}
 use Rattle.vx_flat.specs.Step.{upcoming, meaning, is_executed, is_legal, is_legal_as, performed, performed_as, ecall, step, word_at_pc}
 use Rattle.vx_flat.specs.declared.end.End.{End}

@@ -19,10 +19,9 @@ use Rattle.vx_rows.specs.declared.row.Addressing.{Addressing}
 use Rattle.vx_rows.specs.declared.row.Addressing.TheVariants.{FaultOnlyFirst}
 use Rattle.vx_rows.specs.declared.row.Class.TheVariants.{VectorLoad, VectorStore}
 use Rattle.vx_rows.specs.declared.row.Eew.{Eew}
-use Rattle.vx_vaddr.specs.Movements.{movement}
 use Rattle.vx_vaddr.specs.Views.{movement_with}
 use Rattle.vx_vaddr.specs.declared.pattern.AccessPattern.{AccessPattern}
-use Rattle.vx_vector.specs.Accesses.{Movement, access_bits, access_list, accesses_between, accesses_of_element, count_by, movement_count, registers_of_field}
+use Rattle.vx_vector.specs.Accesses.{Movement, access_bits, access_list, accesses_between, accesses_of_element, count_by, movement_count, registers_of_field, movement}
 use Rattle.vx_vector.specs.Movements.{IsLegalMovement, IsSoundMovement}
 use Rattle.vx_vstate.specs.Registers.{words_of_all}
 use Rattle.vx_vstate.specs.State.{IsSetting, SettingView, VectorState, setting_of}

@@ -12,9 +12,9 @@ use Rattle.std.proofs.lemmas.List.Elements.{Contains-append_left, Contains-appen
 use Rattle.vx_base.specs.Numbers.{little_endian}
 use Rattle.vx_base.specs.Permissions.{grants}
 use Rattle.vx_base.specs.declared.machine.Want.{Want}
-use Rattle.vx_image.specs.Pages.{MappedPage, Memory, page_numbered}
+use Rattle.vx_image.specs.Pages.{MappedPage, Memory, page_numbered, is_canonical, permits, page_of}
 use Rattle.vx_flat.specs.Checks.{cause_of, misaligned, page_fault}
-use Rattle.vx_flat.specs.Memory.{is_canonical, permits, page_of, offset_of, next_address, with_byte, put_byte, put_bytes, put_number}
+use Rattle.vx_flat.specs.Memory.{offset_of, next_address, with_byte, put_byte, put_bytes, put_number}
 use Rattle.vx_flat.specs.State.{Flat}
 use Rattle.vx_flat.specs.Transfers.{Direction, Failure, access_done, accesses_done, first_failure, failure_of, failure_or, want_of}
 use Rattle.vx_flat.specs.Transfers.Direction.{Loading, Storing}

@@ -2,7 +2,7 @@
 use Rattle.std.specs.Prelude.{◌≡◌, ℕ, true, List}
 use Rattle.vx_base.specs.declared.machine.Want.{Want}
 use Rattle.vx_base.specs.declared.perm.PageEntry.{PageEntry}
-use Rattle.vx_flat.specs.Memory.{page_of, permits}
+use Rattle.vx_image.specs.Pages.{page_of, permits}
 use Rattle.vx_image.specs.Kept.{pages_of, IsPlaceOf}
 
 -- the entry at a place is that of the address's page, and the access is let through there

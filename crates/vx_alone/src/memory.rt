@@ -1,7 +1,7 @@
 ghost use Rattle.std.specs.Prelude.{◌≡◌, ℕ, ◌+◌, ◌-◌, ◌*◌, ◌<◌, ◌≤◌, ◌%◌, ◌^◌, ◌++◌, List, take, drop, length, min, true, false, None, IfOk, IsTrue, MatchOption, vec_len, vec_capacity, if◌then◌else◌};
 ghost use Rattle.vx_base.specs.Numbers.{from_little_endian, little_endian};
 ghost use Rattle.vx_base.specs.declared.machine.Want.TheVariants as want;
-ghost use Rattle.vx_flat.specs.Memory.{permits, bytes_at, all_permit, put_bytes, is_canonical};
+ghost use Rattle.vx_flat.specs.Memory.{bytes_at, all_permit, put_bytes};
 ghost use Rattle.vx_flat.specs.Service.{is_readable};
 ghost use Rattle.vx_image.specs.Kept.{pages_of, IsRising, IsPlaceOf, IsKept, Lacks};
 ghost use Rattle.vx_alone.specs.Granted.{IsGrantedAt};
@@ -30,7 +30,7 @@ pub struct Memory {
 }
 
 impl Model for Memory {
-    ghost use Rattle.vx_image.specs.Pages.{Memory as FlatMemory};
+    ghost use Rattle.vx_image.specs.Pages.{Memory as FlatMemory, permits, is_canonical};
     ghost use Rattle.vx_image.specs.Kept.{pages_of, IsKept};
 
     ghost Value = { FlatMemory };

@@ -1,6 +1,6 @@
 -- Whole numbers and the numbers of a fixed width, in two's complement, and bytes, least first: RISC-V Unprivileged ISA
 -- 20191213, sections 1.4, 1.5 and 2.1.
-use Rattle.std.specs.Prelude.{ℕ, ◌-◌, ◌/◌, ◌%◌, ◌^◌, if◌then◌else◌, nat_lt, ℤ, pos, negsuc, List, [], ◌∷◌, zero, suc, ◌+◌, ◌*◌}
+use Rattle.std.specs.Prelude.{ℕ, ◌-◌, ◌/◌, ◌%◌, ◌^◌, Bool, if◌then◌else◌, nat_lt, ℤ, pos, negsuc, List, [], ◌∷◌, zero, suc, ◌+◌, ◌*◌}
 
 -- z reduced to a width: the number below 2 ^ width that differs from z by a multiple of 2 ^ width
 abbrev pub reduced : ℕ → ℤ → ℕ
@@ -10,6 +10,10 @@ reduced width (negsuc n) = 2 ^ width - 1 - n % 2 ^ width
 -- n, a number below 2 ^ width, read as a signed number of that width: n, or n - 2 ^ width where its top bit is set
 abbrev pub signed : ℕ → ℕ → ℤ
 signed width n = if nat_lt n (2 ^ (width - 1)) then pos n else negsuc (2 ^ width - 1 - n)
+
+-- 1 where a condition holds, else 0
+abbrev pub truth : Bool → ℕ
+truth holds = if holds then 1 else 0
 
 -- the bits of n from `low` on, `count` of them
 abbrev pub field : ℕ → ℕ → ℕ → ℕ

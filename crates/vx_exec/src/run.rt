@@ -1,12 +1,12 @@
 //! Which words of its destination an instruction makes.
 
 ghost use Rattle.std.specs.Prelude.{◌≡◌, ◌≤◌, IsTrue};
-ghost use Rattle.vx_decode.specs.Groups.{width_of};
 ghost use Rattle.vx_exec.specs.Runs.{count_by, run_by};
 ghost use Rattle.vx_mask.specs.Kinds.{is_element, is_telling};
 ghost use Rattle.vx_rows.specs.Families.{operands_of};
 ghost use Rattle.vx_vstate.specs.Views.{view_of};
 
+use vx_decode::width_of;
 use vx_operands::has_few_elements;
 use vx_rows::{Family, Operand};
 use vx_vstate::Setting;
@@ -37,25 +37,6 @@ fn is_element(operand: Operand) -> bool
     match operand {
         Operand::Element | Operand::WideElement => true,
         _ => false,
-    }
-}
-
-/// The width of an operand's elements.
-#[inline(always)]
-fn width_of(operand: Operand, sew: u32) -> u32
-    requires { sew ≤ 64 }
-    ensures is { result ≡ width_of operand sew }
-    ensures in_range { result ≤ 128 }
-{
-    match operand {
-        Operand::Absent => 0,
-        Operand::Double | Operand::WideElement => 2 * sew,
-        Operand::Half => sew / 2,
-        Operand::Quarter => sew / 4,
-        Operand::Eighth => sew / 8,
-        Operand::Sixteen => 16,
-        Operand::Mask => 1,
-        _ => sew,
     }
 }
 

@@ -14,7 +14,8 @@ use Rattle.vx_rows.specs.declared.op.MaskOp.TheVariants.{VredsumVs}
 use Rattle.vx_rows.specs.declared.op.PermOp.TheVariants.{VrgatherVv}
 use Rattle.vx_rows.specs.declared.op.MemoryOp.TheVariants.{Vle8}
 use Rattle.vx_flat.specs.Classes.{Does}
-use Rattle.vx_flat.specs.Scalar.{work, scalar_work, length_source, vtype_source, extended, upper, is_less, truth, even, whole, sign_extended}
+use Rattle.vx_base.specs.Numbers.{truth}
+use Rattle.vx_flat.specs.Scalar.{work, scalar_work, length_source, vtype_source, extended, upper, is_less, even, whole, sign_extended}
 use Rattle.vx_flat.specs.declared.control.Change.TheVariants.{Replace, SetBits, ClearBits}
 use Rattle.vx_flat.specs.declared.control.Source.TheVariants.{Register, Immediate}
 

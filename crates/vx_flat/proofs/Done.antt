@@ -7,11 +7,11 @@ use Rattle.std.proofs.lemmas.List.Elements.{All-nil, All-cons, All-head, All-tai
 use Rattle.std.proofs.lemmas.Option.{none-some, same_Some}
 use Rattle.vx_base.specs.declared.machine.Want.{Want}
 use Rattle.vx_base.specs.Numbers.{little_endian}
-use Rattle.vx_image.specs.Pages.{Memory}
+use Rattle.vx_image.specs.Pages.{Memory, page_of, permits}
 use Rattle.vx_vstate.specs.Registers.{element, with_element, AreApart}
 use Rattle.vx_vector.specs.Accesses.{Access, value_stored}
 use Rattle.vx_flat.specs.Checks.{cause_of, misaligned, page_fault}
-use Rattle.vx_flat.specs.Memory.{page_of, permits, byte_at, number_at}
+use Rattle.vx_flat.specs.Memory.{byte_at, number_at}
 use Rattle.vx_flat.specs.State.{Flat, at_element}
 use Rattle.vx_flat.specs.Transfers.{Direction, Failure, access_done, accesses_done, want_of, failure_of, failure_or, first_failure}
 use Rattle.vx_flat.specs.Transfers.Direction.{Loading, Storing}

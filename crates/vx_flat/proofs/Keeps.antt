@@ -16,7 +16,7 @@ use Rattle.vx_base.specs.Permissions.{grants}
 use Rattle.vx_base.specs.declared.machine.Want.{Want}
 use Rattle.vx_base.specs.declared.machine.Want.TheVariants.{Fetch, Store}
 use Rattle.vx_decode.specs.declared.instr.Instr.{Instr}
-use Rattle.vx_image.specs.Pages.{Image, MappedPage, Memory, page_numbered}
+use Rattle.vx_image.specs.Pages.{Image, MappedPage, Memory, page_numbered, page_of, is_canonical, permits}
 use Rattle.vx_rows.specs.Table.{class_of, shape_of}
 use Rattle.vx_rows.specs.declared.row.Addressing.{Addressing}
 use Rattle.vx_rows.specs.declared.row.Addressing.TheVariants.{FaultOnlyFirst}
@@ -40,7 +40,7 @@ use Rattle.vx_flat.specs.Classes.{Does}
 use Rattle.vx_flat.specs.Configure.{length_asked}
 use Rattle.vx_flat.specs.Continued.{good_done, passed_as, passed_over, behind, continued}
 use Rattle.vx_flat.specs.Control.{Exchange, exchange, written_if, writes, changed}
-use Rattle.vx_flat.specs.Memory.{page_of, is_canonical, permits, number_at}
+use Rattle.vx_flat.specs.Memory.{number_at}
 use Rattle.vx_flat.specs.Operands.{change_in, source_in, operand_of, vtype_of, control_number}
 use Rattle.vx_flat.specs.Outcome.{Outcome, faulted}
 use Rattle.vx_flat.specs.Outcome.Outcome.{Next, Exited, Faulted}

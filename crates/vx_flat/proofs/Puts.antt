@@ -8,8 +8,8 @@ use Rattle.std.proofs.lemmas.Nat.{shr-shr}
 use Rattle.vx_base.specs.Numbers.{little_endian, from_little_endian}
 use Rattle.vx_base.specs.Permissions.{grants}
 use Rattle.vx_base.specs.declared.machine.Want.{Want}
-use Rattle.vx_image.specs.Pages.{MappedPage, Memory, page_numbered}
-use Rattle.vx_flat.specs.Memory.{page_of, offset_of, is_canonical, permits, byte_at, next_address, with_byte, put_byte, put_bytes, number_at}
+use Rattle.vx_image.specs.Pages.{MappedPage, Memory, page_numbered, page_of, is_canonical, permits}
+use Rattle.vx_flat.specs.Memory.{offset_of, byte_at, next_address, with_byte, put_byte, put_bytes, number_at}
 
 -- ---- a page with a byte set
 

@@ -18,7 +18,8 @@ use Rattle.vx_vstate.specs.Registers.{is_byte_width}
 use Rattle.vx_vector.specs.Accesses.{Access, Movement, access_bits, access_of, access_list, accesses_between}
 use Rattle.vx_vector.specs.Movements.{IsSoundMovement}
 use Rattle.vx_flat.specs.Continued.{passed_as, passed_over, behind, continued}
-use Rattle.vx_flat.specs.Memory.{permits, number_at}
+use Rattle.vx_image.specs.Pages.{permits}
+use Rattle.vx_flat.specs.Memory.{number_at}
 use Rattle.vx_flat.specs.Outcome.{Outcome, faulted}
 use Rattle.vx_flat.specs.Outcome.Outcome.{Next, Exited, Faulted}
 use Rattle.vx_flat.specs.Prefix.{transfer_as, transfer_next, prefix_of, prefix_at}

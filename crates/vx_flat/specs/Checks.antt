@@ -3,8 +3,7 @@
 use Rattle.std.specs.Prelude.{ℕ, ◌%◌, not, ◌==◌, Option, Some, None, if◌then◌else◌}
 use Rattle.vx_base.specs.declared.machine.Want.{Want}
 use Rattle.vx_base.specs.declared.machine.Want.TheVariants.{Fetch, Load, Store}
-use Rattle.vx_image.specs.Pages.{Memory}
-use Rattle.vx_flat.specs.Memory.{permits}
+use Rattle.vx_image.specs.Pages.{Memory, permits}
 use Rattle.vx_flat.specs.Outcome.{Outcome, faulted}
 use Rattle.vx_flat.specs.Outcome.Outcome.{Next}
 use Rattle.vx_flat.specs.State.{Flat}

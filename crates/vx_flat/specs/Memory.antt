@@ -3,24 +3,11 @@
 use Rattle.std.specs.Prelude.{ℕ, zero, suc, ◌+◌, ◌-◌, ◌/◌, ◌%◌, ◌^◌, Bool, true, false, ◌==◌, ◌&&◌, ◌||◌, List, [], ◌∷◌, map, if◌then◌else◌, slice_index, slice_set}
 use Rattle.std.specs.Option.{option_map_or}
 use Rattle.vx_base.specs.Numbers.{little_endian, from_little_endian}
-use Rattle.vx_base.specs.Permissions.{grants}
 use Rattle.vx_base.specs.declared.machine.Want.{Want}
-use Rattle.vx_image.specs.Pages.{MappedPage, Memory, page_numbered}
-
-abbrev pub page_of : ℕ → ℕ
-page_of address = address / 4096
+use Rattle.vx_image.specs.Pages.{MappedPage, Memory, page_numbered, page_of, permits}
 
 abbrev pub offset_of : ℕ → ℕ
 offset_of address = address % 4096
-
--- bits 63 to 39 equal bit 38
-abbrev pub is_canonical : ℕ → Bool
-is_canonical address = address / 2 ^ 38 == 0 || address / 2 ^ 38 == 2 ^ 26 - 1
-
--- the address is canonical, and its page is mapped and grants the access
-abbrev pub permits : Memory → ℕ → Want → Bool
-permits memory address want =
-    is_canonical address && option_map_or (λ (page : MappedPage). grants page.permissions want) (page_numbered (page_of address) memory) false
 
 -- the byte at an address of a mapped page
 abbrev pub byte_at : Memory → ℕ → ℕ

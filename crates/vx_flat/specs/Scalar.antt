@@ -3,7 +3,7 @@
 -- are the numbers in rs1 and rs2, and n is the immediate, each a number of 64 bits. The operations whose names end in w compute
 -- at 32 bits, and sign-extend what they compute.
 use Rattle.std.specs.Prelude.{ℕ, ◌+◌, ◌-◌, ◌*◌, ◌%◌, ◌^◌, Bool, not, ◌==◌, nat_lt, int_lt, bit_and, bit_or, bit_xor, List, if◌then◌else◌, slice_index}
-use Rattle.vx_base.specs.Numbers.{reduced, signed}
+use Rattle.vx_base.specs.Numbers.{reduced, signed, truth}
 use Rattle.vx_bits.specs.Arithmetic.{sum_at, difference_at, product_at, signed_high_at, unsigned_high_at, mixed_high_at, signed_quotient_at, unsigned_quotient_at, signed_remainder_at, unsigned_remainder_at, shifted_left_at, shifted_right_at, sign_shifted_right_at}
 use Rattle.vx_bits.specs.Width.{signed_at}
 use Rattle.vx_decode.specs.declared.instr.Instr.{Instr}
@@ -35,10 +35,6 @@ upper n = extended (n % 2 ^ 20 * 2 ^ 12)
 -- a is less than b, as signed numbers
 abbrev pub is_less : (a b : ℕ) → Bool
 is_less a b = int_lt (signed 64 a) (signed 64 b)
-
--- 1 where a comparison holds, else 0
-abbrev pub truth : Bool → ℕ
-truth holds = if holds then 1 else 0
 
 -- the number without its bit 0
 abbrev pub even : ℕ → ℕ

@@ -4,9 +4,8 @@ use Rattle.std.specs.Prelude.{◌≡◌, ℕ, ◌%◌, true, false, All, IsTrue}
 use Rattle.vx_base.specs.Options.{is_register_length}
 use Rattle.vx_base.specs.Pages.{is_page_permission}
 use Rattle.vx_base.specs.declared.machine.Want.TheVariants.{Fetch, Store}
-use Rattle.vx_image.specs.Pages.{Image, MappedPage}
+use Rattle.vx_image.specs.Pages.{Image, MappedPage, permits}
 use Rattle.vx_vstate.specs.State.{IsVectorState}
-use Rattle.vx_flat.specs.Memory.{permits}
 use Rattle.vx_flat.specs.State.{Flat}
 use Rattle.vx_flat.specs.declared.hart.Hart.{Hart}
 

@@ -16,7 +16,8 @@ use Rattle.vx_flat.specs.Access.{access_address, access_width, loaded}
 use Rattle.vx_flat.specs.Checks.{cause_of, checked}
 use Rattle.vx_flat.specs.Configure.{length_asked}
 use Rattle.vx_flat.specs.Control.{Exchange, exchange}
-use Rattle.vx_flat.specs.Memory.{permits, number_at, put_number}
+use Rattle.vx_image.specs.Pages.{permits}
+use Rattle.vx_flat.specs.Memory.{number_at, put_number}
 use Rattle.vx_flat.specs.Outcome.{Outcome, faulted}
 use Rattle.vx_flat.specs.Outcome.Outcome.{Next, Exited}
 use Rattle.vx_flat.specs.Operands.{change_in, source_in, operand_of, vtype_of, control_number}

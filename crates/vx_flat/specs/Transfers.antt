@@ -8,7 +8,7 @@ use Rattle.vx_image.specs.Pages.{Memory}
 use Rattle.vx_rows.specs.declared.row.Addressing.{Addressing}
 use Rattle.vx_rows.specs.declared.row.Addressing.TheVariants.{Unit, FaultOnlyFirst, Whole, MaskBits, Strided, Unordered, Ordered}
 use Rattle.vx_rows.specs.declared.row.Eew.{Eew}
-use Rattle.vx_vector.specs.Accesses.{Access, Movement, access_list, accesses_between, movement_count, with_loaded, value_stored}
+use Rattle.vx_vector.specs.Accesses.{Access, Movement, access_list, accesses_between, movement, movement_count, with_loaded, value_stored}
 use Rattle.vx_flat.specs.Checks.{cause_of}
 use Rattle.vx_flat.specs.Memory.{number_at, put_number}
 use Rattle.vx_flat.specs.Outcome.{Outcome, faulted}
@@ -30,15 +30,7 @@ pub record Transfer : Type 0 where
 abbrev pub transfer : Direction → Addressing → Eew → Flat → Instr → Transfer
 transfer direction addressing encoded s i = record {
   direction = direction;
-  movement = record {
-    addressing = addressing;
-    encoded = encoded;
-    i = i;
-    at = setting_at s i;
-    base = register s i.rs1;
-    stride = register s i.rs2;
-    words = s.v.words;
-  };
+  movement = movement addressing encoded i (setting_at s i) (register s i.rs1) (register s i.rs2) s.v.words;
 }
 
 -- ---- an access done

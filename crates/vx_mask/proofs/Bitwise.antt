@@ -6,7 +6,7 @@ use Rattle.std.proofs.lemmas.Nat.Bits.{bit_at_and, bit_at_or, bit_at_xor, bit_at
 use Rattle.vx_bits.specs.declared.saturation.Sat.{Sat}
 use Rattle.vx_decode.specs.Groups.{width_of}
 use Rattle.vx_packed.specs.Joined.{lane}
-use Rattle.vx_packed.specs.Made.{truth}
+use Rattle.vx_base.specs.Numbers.{truth}
 use Rattle.vx_rows.specs.Families.{operands_of}
 use Rattle.vx_rows.specs.declared.family.Operands.{Operands}
 use Rattle.vx_rows.specs.declared.row.First.{First}

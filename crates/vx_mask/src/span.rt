@@ -3,7 +3,7 @@ ghost use Rattle.std.specs.Prelude.{IsTrue, ◌≡◌, ℕ, ◌+◌, ◌*◌, �
 ghost use Rattle.vx_mask.specs.Kinds.{is_span, spans_from, spans_to};
 ghost use Rattle.vx_operands.specs.Forms.{reading};
 ghost use Rattle.vx_packed.specs.Joined.{lane};
-ghost use Rattle.vx_packed.specs.Made.{truth};
+ghost use Rattle.vx_base.specs.Numbers.{truth};
 ghost use Rattle.vx_vector.specs.Laws.{IsSound, made_word, word_saturates};
 ghost use Rattle.vx_vector.specs.Words.{destination_words};
 

@@ -7,7 +7,8 @@ use Rattle.std.proofs.lemmas.Bool.Decides.{nat_tests}
 use Rattle.vx_bits.specs.Width.{is_width}
 use Rattle.vx_bits.specs.declared.saturation.Sat.{Sat}
 use Rattle.vx_packed.specs.Joined.{lane, joined, some_below}
-use Rattle.vx_packed.specs.Made.{merged, truth}
+use Rattle.vx_base.specs.Numbers.{truth}
+use Rattle.vx_packed.specs.Made.{merged}
 use Rattle.vx_rows.specs.Families.{operands_of}
 use Rattle.vx_vstate.specs.Registers.{word_at, element, is_element_width}
 use Rattle.vx_vector.specs.Arithmetic.{given, has_first, becomes, becomes_by, has_saturated}

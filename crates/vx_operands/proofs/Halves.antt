@@ -1,11 +1,11 @@
 -- A word of the destination whose halves are made of two words of vs2.
 use Rattle.std.proofs.Common.{◌≡◌, ℕ, ◌+◌, ◌-◌, ◌*◌, ◌/◌, ◌%◌, ◌^◌, ◌<◌, ◌≤◌, Bool, true, ◌&&◌, ◌||◌, IsTrue, leb, ltb, nat_eq, if◌then◌else◌, refl, sym, ap, ◌∙◌, subst, ⊎_elim, arith, lt-ltb, le-ltb, mod-lt, mod-eq_of_lt, pow_pos}
 use Rattle.std.proofs.lemmas.Bool.{true≢false, and_parts, cases_lt}
-use Rattle.vx_base.specs.Numbers.{field}
+use Rattle.vx_base.specs.Numbers.{field, truth}
 use Rattle.vx_bits.specs.Width.{is_width}
 use Rattle.vx_decode.specs.Groups.{width_of}
 use Rattle.vx_packed.specs.Joined.{lane, joined}
-use Rattle.vx_packed.specs.Made.{made, lane_of, truth}
+use Rattle.vx_packed.specs.Made.{made, lane_of}
 use Rattle.vx_packed.specs.declared.elements.Made.{Made}
 use Rattle.vx_packed.specs.declared.elements.Packing.{Packing}
 use Rattle.vx_packed.specs.declared.elements.Sources.{Sources}

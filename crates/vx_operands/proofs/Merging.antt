@@ -7,7 +7,8 @@ use Rattle.std.proofs.lemmas.Nat.Bits.{bit_at_ones}
 use Rattle.vx_bits.specs.Width.{is_width}
 use Rattle.vx_bits.specs.declared.saturation.Sat.{Sat}
 use Rattle.vx_packed.specs.Joined.{lane, joined, some_below}
-use Rattle.vx_packed.specs.Made.{merged, truth, made, lane_of}
+use Rattle.vx_base.specs.Numbers.{truth}
+use Rattle.vx_packed.specs.Made.{merged, made, lane_of}
 use Rattle.vx_packed.specs.declared.elements.Made.{Made}
 use Rattle.vx_packed.specs.declared.elements.Packing.{Packing}
 use Rattle.vx_packed.specs.declared.elements.Sources.{Sources}

@@ -4,7 +4,8 @@ use Rattle.std.proofs.lemmas.Bool.{false≢true, and_parts, cases_Bool, eqb-true
 use Rattle.vx_bits.specs.Width.{is_width}
 use Rattle.vx_decode.specs.Groups.{width_of}
 use Rattle.vx_packed.specs.Joined.{lane}
-use Rattle.vx_packed.specs.Made.{made, lane_of, truth}
+use Rattle.vx_base.specs.Numbers.{truth}
+use Rattle.vx_packed.specs.Made.{made, lane_of}
 use Rattle.vx_packed.specs.declared.elements.Made.{Made}
 use Rattle.vx_packed.specs.declared.elements.Packing.{Packing}
 use Rattle.vx_packed.specs.declared.elements.Sources.{Sources}

@@ -7,7 +7,8 @@ use Rattle.std.proofs.lemmas.Nat.{and_mask, and_le_l, or_lt, mod-pow-add}
 use Rattle.std.proofs.lemmas.Nat.Bits.{bit_at_and, bit_at_or, bit_at_not, bit_at_ones, bit_at_ones_above, bit_at-lt}
 use Rattle.vx_bits.specs.Width.{is_width}
 use Rattle.vx_packed.specs.Joined.{lane, joined, some_below}
-use Rattle.vx_packed.specs.Made.{merged, truth}
+use Rattle.vx_base.specs.Numbers.{truth}
+use Rattle.vx_packed.specs.Made.{merged}
 use Rattle.vx_packed.proofs.Joined.{joined_same, joined_lanes, joined_append, joined-none, joined-suc, lane_joined}
 
 -- as many elements as fill a word

@@ -2,7 +2,8 @@
 use Rattle.std.proofs.Common.{◌≡◌, ℕ, ◌+◌, ◌*◌, ◌%◌, ◌^◌, ◌<◌, sym, ap, ◌∙◌, subst, arith, add-one, pow_pos, mod-lt}
 use Rattle.vx_bits.specs.declared.saturation.Sat.{Sat}
 use Rattle.vx_packed.specs.Joined.{joined}
-use Rattle.vx_packed.specs.Made.{IsWithin, Answers, lane_of, made, truth}
+use Rattle.vx_base.specs.Numbers.{truth}
+use Rattle.vx_packed.specs.Made.{IsWithin, Answers, lane_of, made}
 use Rattle.vx_packed.specs.declared.elements.Lane.{Lane}
 use Rattle.vx_packed.specs.declared.elements.Made.{Made}
 use Rattle.vx_packed.specs.declared.elements.Packing.{Packing}

@@ -1,5 +1,6 @@
 -- A word whose elements are made of the elements at the same places of other words.
 use Rattle.std.specs.Prelude.{◌≡◌, ℕ, ◌*◌, ◌/◌, ◌%◌, ◌^◌, ◌<◌, ◌≤◌, Bool, ◌==◌, if◌then◌else◌}
+use Rattle.vx_base.specs.Numbers.{truth}
 use Rattle.vx_bits.specs.declared.saturation.Sat.{Sat}
 use Rattle.vx_packed.specs.Joined.{lane, joined}
 use Rattle.vx_packed.specs.declared.elements.Lane.{Lane}
@@ -29,10 +30,6 @@ pub record IsWithin (at : Packing) (l : Lane) : Type 0 where
 -- the numbers at place k of the sources
 abbrev pub lane_of : Packing → Sources → (k : ℕ) → Lane
 lane_of at from k = record { a = lane at.a from.a k; b = lane at.b from.b k; d = lane at.width from.d k; m = lane 1 from.m k == 1 }
-
--- 1 where a condition holds
-abbrev pub truth : Bool → ℕ
-truth holds = if holds then 1 else 0
 
 -- the word whose elements f gives, and the lanes at which it saturates
 abbrev pub made : Packing → Sources → (f : Lane → Sat) → Made

@@ -2,7 +2,8 @@ ghost use Rattle.std.specs.Prelude.{IsTrue, ◌≡◌, ℕ, ◌+◌, ◌-◌, �
 ghost use Rattle.vx_bits.specs.Width.{is_width};
 ghost use Rattle.vx_bits.specs.declared.saturation.Sat.{Sat};
 ghost use Rattle.vx_packed.specs.Joined.{lane};
-ghost use Rattle.vx_packed.specs.Made.{IsPacking, IsWithin, Answers, even_packing, lane_of, made, truth};
+ghost use Rattle.vx_base.specs.Numbers.{truth};
+ghost use Rattle.vx_packed.specs.Made.{IsPacking, IsWithin, Answers, even_packing, lane_of, made};
 ghost use Rattle.vx_packed.specs.declared.elements.Lane.{Lane};
 
 use crate::elements::{Lane, Made, Packing, Sources};

@@ -1,7 +1,8 @@
 ghost use Rattle.std.specs.Prelude.{IsTrue, ◌≡◌, ℕ, ◌+◌, ◌-◌, ◌*◌, ◌/◌, ◌==◌, ◌&&◌, nat_lt, nat_le, if◌then◌else◌, min, ◌<◌, ◌≤◌, ◌^◌};
 ghost use Rattle.vx_bits.specs.Width.{is_width};
 ghost use Rattle.vx_packed.specs.Joined.{lane, joined, some_below};
-ghost use Rattle.vx_packed.specs.Made.{merged, truth};
+ghost use Rattle.vx_base.specs.Numbers.{truth};
+ghost use Rattle.vx_packed.specs.Made.{merged};
 
 use crate::elements::Sources;
 use crate::making::{make_even, ones};

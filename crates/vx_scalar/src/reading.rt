@@ -1,7 +1,7 @@
 ghost use Rattle.std.specs.Prelude.{◌≡◌, ◌<◌, ◌^◌};
-ghost use Rattle.vx_base.specs.Numbers.{reduced};
+ghost use Rattle.vx_base.specs.Numbers.{reduced, truth};
 ghost use Rattle.vx_bits.specs.Arithmetic.{sum_at};
-ghost use Rattle.vx_flat.specs.Scalar.{extended, is_less, next_pc, truth};
+ghost use Rattle.vx_flat.specs.Scalar.{extended, is_less, next_pc};
 
 /// An immediate as a number of 64 bits.
 pub fn number(imm: i64) -> u64

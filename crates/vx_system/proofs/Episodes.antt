@@ -13,7 +13,7 @@ use Rattle.vx_alone.specs.Asking.{is_service, is_service_class}
 use Rattle.vx_base.specs.Numbers.{reduced}
 use Rattle.vx_base.specs.declared.machine.Want.TheVariants.{Fetch, Load, Store}
 use Rattle.vx_flat.specs.Access.{access_address}
-use Rattle.vx_flat.specs.Memory.{permits}
+use Rattle.vx_image.specs.Pages.{permits}
 use Rattle.vx_flat.specs.Process.{Process, after, stepped}
 use Rattle.vx_flat.specs.Classes.{Does}
 use Rattle.vx_flat.specs.Scalar.{Work, effect, effect_of, next_pc, put, work}

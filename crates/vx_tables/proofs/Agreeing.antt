@@ -8,7 +8,8 @@ use Rattle.vx_base.specs.Permissions.{grants}
 use Rattle.vx_base.specs.declared.machine.Want.{Want}
 use Rattle.vx_base.specs.declared.machine.Want.TheVariants.{Fetch, Load, Store}
 use Rattle.vx_base.specs.declared.perm.PageEntry.{PageEntry}
-use Rattle.vx_tables.specs.Residency.{Place, PlacedPage, Residency, pages_of, page_of, placed, with_place, is_store, found_at, touched, page_map, after_walk}
+use Rattle.vx_image.specs.Pages.{page_of}
+use Rattle.vx_tables.specs.Residency.{Place, PlacedPage, Residency, pages_of, placed, with_place, is_store, found_at, touched, page_map, after_walk}
 use Rattle.vx_tables.specs.Residency.Place.{Away, Present}
 use Rattle.vx_tables.specs.Walking.{PlacesAgree, PagesAgree, Agree}
 use Rattle.vx_tables.specs.Walks.{walk_port}

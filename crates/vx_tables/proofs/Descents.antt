@@ -9,11 +9,12 @@ use Rattle.vx_base.specs.Pages.{IsPageList, IsMapped}
 use Rattle.vx_base.specs.declared.machine.Want.{Want}
 use Rattle.vx_base.specs.declared.perm.PageEntry.{PageEntry}
 use Rattle.vx_tables.specs.Entries.{pointer, page_entry, leaf_answer, leaf_written}
-use Rattle.vx_tables.specs.Residency.{Place, PlacedPage, Residency, pages_of, page_of, placed, with_place, found_at, touched, page_map, after_walk, AreBelow}
+use Rattle.vx_image.specs.Pages.{page_of, is_canonical}
+use Rattle.vx_tables.specs.Residency.{Place, PlacedPage, Residency, pages_of, placed, with_place, found_at, touched, page_map, after_walk, AreBelow}
 use Rattle.vx_tables.specs.Tables.{gib, mib2, has_region, table_count, second_frame, leaf_frame, root_entry, second_entry, leaf_entry, table_word, leaf_word, Stand}
 use Rattle.vx_tables.specs.declared.stage.TableEntry.{TableEntry}
 use Rattle.vx_tables.specs.Walking.{PlacesAgree, PagesAgree, Agree}
-use Rattle.vx_tables.specs.Walks.{Walk, is_canonical, entry_word, refused, reading, leaf_walk, walk_from, walk, table_walk, with_entry}
+use Rattle.vx_tables.specs.Walks.{Walk, entry_word, refused, reading, leaf_walk, walk_from, walk, table_walk, with_entry}
 use Rattle.vx_tables.specs.declared.walked.Walked.TheVariants as walked
 use Rattle.vx_tables.proofs.Decoded.{permission_small, is_pointer-pointer, frame_in-pointer, leaf_answer-entry, leaf_written-late, page_entry-frame, Writes}
 use Rattle.vx_tables.proofs.Held.{placed-below, IsBelow-touched}

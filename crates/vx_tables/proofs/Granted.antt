@@ -4,16 +4,15 @@ use Rattle.std.specs.Prelude.{Option, option_map, ◌&&◌, if◌then◌else◌}
 use Rattle.std.specs.Option.{option_map_or}
 use Rattle.std.proofs.lemmas.Bool.{cases_Bool}
 use Rattle.vx_base.specs.Pages.{IsPageList}
-use Rattle.vx_tables.specs.Walks.{is_canonical}
 use Rattle.vx_tables.proofs.Descents.{mapped_low}
 use Rattle.vx_base.specs.Permissions.{grants}
 use Rattle.vx_base.specs.declared.machine.Want.{Want}
 use Rattle.vx_base.specs.declared.perm.Perm.{Perm}
 use Rattle.vx_base.specs.declared.perm.PageEntry.{PageEntry}
 use Rattle.vx_image.specs.Images.{entry_of_page}
-use Rattle.vx_image.specs.Pages.{MappedPage, Memory, page_numbered}
+use Rattle.vx_image.specs.Pages.{MappedPage, Memory, page_numbered, page_of, is_granted, is_canonical}
 use Rattle.vx_image.specs.Tables.{distinct_count, table_frames}
-use Rattle.vx_tables.specs.Residency.{Place, PlacedPage, Residency, IsOf, pages_of, page_of, placed, found_at, page_map, is_granted}
+use Rattle.vx_tables.specs.Residency.{Place, PlacedPage, Residency, IsOf, pages_of, placed, found_at, page_map}
 use Rattle.vx_tables.specs.Residency.Place.{Away, Present}
 use Rattle.vx_tables.specs.Tables.{regions, table_count}
 use Rattle.vx_tables.specs.declared.walked.Walked.{Walked}

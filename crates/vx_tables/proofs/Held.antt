@@ -8,7 +8,8 @@ use Rattle.vx_base.specs.Permissions.{grants}
 use Rattle.vx_cells.specs.Cells.{CellsState, IsMemory, Makes, with_access, with_accesses}
 use Rattle.vx_cells.specs.Merging.{merged}
 use Rattle.vx_cells.specs.declared.access.Access.{Access}
-use Rattle.vx_tables.specs.Residency.{Place, PlacedPage, Residency, pages_of, page_of, placed, with_place, touched, after_walk, IsBelow, AreBelow}
+use Rattle.vx_image.specs.Pages.{page_of}
+use Rattle.vx_tables.specs.Residency.{Place, PlacedPage, Residency, pages_of, placed, with_place, touched, after_walk, IsBelow, AreBelow}
 use Rattle.vx_tables.specs.Residency.Place.{Away, Present}
 use Rattle.vx_tables.specs.Tables.{Stand, AreHeld, table_count}
 use Rattle.vx_tables.proofs.Moving.{pages_of-with_place}

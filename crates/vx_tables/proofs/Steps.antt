@@ -15,7 +15,8 @@ use Rattle.vx_tables.specs.Entries.{pointer, page_entry, frame_in, is_pointer, l
 use Rattle.vx_tables.specs.Residency.{PlacedPage, Residency, pages_of, placed, after_walk, AreBelow}
 use Rattle.vx_tables.specs.Tables.{gib, mib2, has_region, second_frame, leaf_frame, root_entry, second_entry, leaf_entry, table_word, table_count, Stand, AreHeld, SameBut}
 use Rattle.vx_tables.specs.Walking.{Walking, first_stage, stage_behind, stage_after, reading_first, rest_of, IsTable, IsStage, IsWalk, Agree, CanTick, WalkGoesOn, WalkEnds}
-use Rattle.vx_tables.specs.Walks.{Walk, is_canonical, entry_word, reading, walk_from, walk, table_walk, with_entry, written_entry}
+use Rattle.vx_image.specs.Pages.{is_canonical}
+use Rattle.vx_tables.specs.Walks.{Walk, entry_word, reading, walk_from, walk, table_walk, with_entry, written_entry}
 use Rattle.vx_tables.specs.declared.stage.Stage.{Stage}
 use Rattle.vx_tables.specs.declared.stage.Stage.TheVariants as stage
 use Rattle.vx_tables.specs.declared.stage.TableEntry.{TableEntry}

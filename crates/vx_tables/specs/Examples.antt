@@ -6,7 +6,8 @@ use Rattle.vx_tables.specs.Caches.{Fill, look_up}
 use Rattle.vx_tables.specs.Entries.{pointer, page_entry, leaf_answer, leaf_written}
 use Rattle.vx_tables.specs.Residency.{Place, Residency, after_walk, page_map}
 use Rattle.vx_tables.specs.Residency.Place.{Away, Present}
-use Rattle.vx_tables.specs.Walks.{is_canonical, entry_word, refused, table_walk}
+use Rattle.vx_image.specs.Pages.{is_canonical}
+use Rattle.vx_tables.specs.Walks.{entry_word, refused, table_walk}
 use Rattle.vx_tables.specs.declared.look.Look.TheVariants as look
 use Rattle.vx_tables.specs.declared.walked.Walked.TheVariants as walked
 

@@ -7,7 +7,7 @@ use Rattle.vx_base.specs.declared.machine.Want.{Want}
 use Rattle.vx_base.specs.declared.machine.Want.TheVariants.{Fetch, Load, Store}
 use Rattle.vx_base.specs.declared.perm.PageEntry.{PageEntry}
 use Rattle.vx_image.specs.Images.{entry_of_page}
-use Rattle.vx_image.specs.Pages.{MappedPage, Memory, page_numbered}
+use Rattle.vx_image.specs.Pages.{Memory, page_of}
 use Rattle.vx_tables.specs.declared.walked.Walked.{Walked}
 use Rattle.vx_tables.specs.declared.walked.Walked.TheVariants as walked
 
@@ -53,9 +53,6 @@ moved number place p = if p.entry.page == number then record p { place = place }
 abbrev pub with_place : (number : ℕ) → Place → Residency → Residency
 with_place number place residency = map (moved number place) residency
 
-abbrev pub page_of : ℕ → ℕ
-page_of address = address / 4096
-
 abbrev pub is_store : Want → Bool
 is_store Fetch = false
 is_store Load = false
@@ -90,8 +87,3 @@ IsBelow frames (Present frame accessed dirty) = frame < frames
 
 abbrev pub AreBelow : (frames : ℕ) → Residency → Type 0
 AreBelow frames residency = All (λ (p : PlacedPage). IsBelow frames p.place) residency
-
--- the page of an address is mapped and grants an access
-abbrev pub is_granted : Memory → (address : ℕ) → Want → Bool
-is_granted memory address want =
-    option_map_or (λ (page : MappedPage). grants page.permissions want) (page_numbered (page_of address) memory) false

@@ -8,10 +8,11 @@ use Rattle.vx_base.specs.declared.perm.PageEntry.{PageEntry}
 use Rattle.vx_cells.specs.Cells.{CellsState, Makes, read_at}
 use Rattle.vx_cells.specs.declared.access.Port.{Port}
 use Rattle.vx_tables.specs.Entries.{frame_in, is_pointer, leaf_answer, leaf_written}
-use Rattle.vx_tables.specs.Residency.{Place, PlacedPage, Residency, pages_of, page_of, placed, page_map, after_walk}
+use Rattle.vx_image.specs.Pages.{page_of, is_canonical}
+use Rattle.vx_tables.specs.Residency.{Place, PlacedPage, Residency, pages_of, placed, page_map, after_walk}
 use Rattle.vx_tables.specs.Residency.Place.{Away, Present}
 use Rattle.vx_tables.specs.Tables.{gib, mib2, has_region, second_frame, leaf_frame, table_count, table_word, AreHeld, SameBut}
-use Rattle.vx_tables.specs.Walks.{Walk, is_canonical, entry_word, refused, walk_from, table_walk, walk_port, read_entry, written_entry, walk_accesses}
+use Rattle.vx_tables.specs.Walks.{Walk, entry_word, refused, walk_from, table_walk, walk_port, read_entry, written_entry, walk_accesses}
 use Rattle.vx_tables.specs.declared.stage.Stage.{Stage}
 use Rattle.vx_tables.specs.declared.stage.Stage.TheVariants.{Reads, Ends, Over}
 use Rattle.vx_tables.specs.declared.stage.TableEntry.{TableEntry}

@@ -8,6 +8,7 @@ use Rattle.vx_base.specs.declared.machine.Want.TheVariants.{Fetch, Load, Store}
 use Rattle.vx_cells.specs.declared.access.Access.{Access}
 use Rattle.vx_cells.specs.declared.access.Port.{Port}
 use Rattle.vx_cells.specs.declared.access.Port.TheVariants as port
+use Rattle.vx_image.specs.Pages.{is_canonical}
 use Rattle.vx_tables.specs.Entries.{frame_in, is_pointer, leaf_answer, leaf_written}
 use Rattle.vx_tables.specs.Residency.{Residency}
 use Rattle.vx_tables.specs.Tables.{table_word}
@@ -20,10 +21,6 @@ pub record Walk : Type 0 where
   pub reads : List TableEntry
   pub answer : Walked
   pub write : Option TableEntry
-
--- bits 63 to 39 equal bit 38
-abbrev pub is_canonical : ℕ → Bool
-is_canonical address = address / 2 ^ 38 == 0 || address / 2 ^ 38 == 2 ^ 26 - 1
 
 -- the word of the entry for an address in the table in a frame, at level 2 for the root, 1 and 0 for the leaves
 abbrev pub entry_word : (frame address level : ℕ) → ℕ

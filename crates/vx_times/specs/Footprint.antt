@@ -7,7 +7,7 @@ use Rattle.vx_rows.specs.Table.{class_of}
 use Rattle.vx_rows.specs.declared.row.Class.{Class}
 use Rattle.vx_rows.specs.declared.row.Class.TheVariants as class
 use Rattle.vx_flat.specs.Access.{access_address, access_width}
-use Rattle.vx_flat.specs.Memory.{permits}
+use Rattle.vx_image.specs.Pages.{permits}
 use Rattle.vx_flat.specs.Scalar.{effect}
 use Rattle.vx_flat.specs.State.{Flat}
 use Rattle.vx_flat.specs.Step.{upcoming}

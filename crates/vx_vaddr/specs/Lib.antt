@@ -1,4 +1,3 @@
 pub mod Items
-pub mod Movements
 pub mod Patterns
 pub mod Views

@@ -1,8 +1,7 @@
 -- An access pattern as the movement that it was made of, over the words of the registers.
 use Rattle.std.specs.Prelude.{ℕ, List}
 use Rattle.vx_vstate.specs.Views.{view_of}
-use Rattle.vx_vector.specs.Accesses.{Movement}
-use Rattle.vx_vaddr.specs.Movements.{movement}
+use Rattle.vx_vector.specs.Accesses.{Movement, movement}
 use Rattle.vx_vaddr.specs.declared.pattern.AccessPattern.{AccessPattern}
 
 abbrev pub movement_with : AccessPattern → (words : List ℕ) → Movement

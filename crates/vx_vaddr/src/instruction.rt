@@ -1,7 +1,6 @@
 ghost use Rattle.std.specs.Prelude.{◌≡◌, ◌<◌, ◌≤◌, Some};
 ghost use Rattle.vx_vaddr.specs.Items.{accesses_of_items};
-ghost use Rattle.vx_vaddr.specs.Movements.{movement, movement_of};
-ghost use Rattle.vx_vector.specs.Accesses.{Movement, movement_count};
+ghost use Rattle.vx_vector.specs.Accesses.{Movement, movement_count, movement, movement_of};
 ghost use Rattle.vx_vector.specs.Batches.{accesses_of_batch, batch_at, most_of_batch};
 ghost use Rattle.vx_vector.specs.Movements.{IsLegalMovement};
 ghost use Rattle.vx_vstate.specs.Views.{view_of};

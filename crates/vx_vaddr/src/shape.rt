@@ -8,24 +8,9 @@ ghost use Rattle.vx_vector.specs.Accesses.{count_by, moved_width};
 ghost use Rattle.vx_vstate.specs.Groups.{emul_eighths, registers_of_group};
 ghost use Rattle.vx_vstate.specs.Views.{view_of};
 
-use vx_decode::Instr;
+use vx_decode::{Instr, bits_of_eew};
 use vx_rows::{Addressing, Eew};
 use vx_vstate::Setting;
-
-/// The width that a vector load or store encodes, in bits.
-#[inline(always)]
-pub(crate) fn bits_of_eew(encoded: Eew) -> u32
-    ensures is { result ≡ bits_of_eew encoded }
-    ensures least { 8 ≤ result }
-    ensures most { result ≤ 64 }
-{
-    match encoded {
-        Eew::E8 => 8,
-        Eew::E16 => 16,
-        Eew::E32 => 32,
-        Eew::E64 => 64,
-    }
-}
 
 /// The width of an access, in bits: of elements, or of a mask's bytes.
 #[inline(always)]

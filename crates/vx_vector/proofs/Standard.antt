@@ -5,7 +5,8 @@ use Rattle.std.proofs.Common.{◌≡◌, ℕ, ◌/◌, ◌%◌, ◌^◌, Bool, t
 use Rattle.vx_bits.specs.declared.saturation.Sat.{Sat}
 use Rattle.vx_rows.specs.declared.family.Family.{Family}
 use Rattle.vx_rows.specs.declared.family.Family.TheVariants.{Vadd, Vsub, Vrsub, Vminu, Vmin, Vmaxu, Vmax, Vand, Vor, Vxor, Vmerge, VmvV, Vsll, Vsrl, Vsra, Vmv1r, Vmv2r, Vmv4r, Vmv8r, VzextVf8, VsextVf8, VzextVf4, VsextVf4, VzextVf2, VsextVf2, Vdivu, Vdiv, Vremu, Vrem, Vmulhu, Vmul, Vmulhsu, Vmulh, Vmadd, Vnmsub, Vmacc, Vnmsac, Vadc, Vmadc, Vsbc, Vmsbc, Vmseq, Vmsne, Vmsltu, Vmslt, Vmsleu, Vmsle, Vmsgtu, Vmsgt, Vnsrl, Vnsra, Vwaddu, Vwadd, Vwsubu, Vwsub, VwadduW, VwaddW, VwsubuW, VwsubW, Vwmulu, Vwmulsu, Vwmul, Vwmaccu, Vwmacc, Vwmaccus, Vwmaccsu, Vsaddu, Vsadd, Vssubu, Vssub, Vsmul, Vssrl, Vssra, Vnclipu, Vnclip, Vaaddu, Vaadd, Vasubu, Vasub, Vmandn, Vmand, Vmor, Vmxor, Vmorn, Vmnand, Vmnor, Vmxnor}
-use Rattle.vx_vector.specs.Numbers.{Numbers, plain, truth}
+use Rattle.vx_base.specs.Numbers.{truth}
+use Rattle.vx_vector.specs.Numbers.{Numbers, plain}
 use Rattle.vx_vector.specs.Rules.{Rule, rule_of}
 use Rattle.vx_vector.specs.Rules.Rule.{Each}
 

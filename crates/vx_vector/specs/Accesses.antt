@@ -1,9 +1,12 @@
 -- Which accesses a vector load or store makes: RISC-V "V" 1.0, sections 7.2 to 7.9. All are in element order, and within an
 -- element in the order of its fields; an element that takes no part has none.
-use Rattle.std.specs.Prelude.{ℕ, ◌+◌, ◌-◌, ◌*◌, ◌/◌, ◌%◌, ◌^◌, Bool, ◌&&◌, ◌||◌, nat_lt, nat_le, List, [], map, flat_map, if◌then◌else◌}
+use Rattle.std.specs.Prelude.{ℕ, ◌+◌, ◌-◌, ◌*◌, ◌/◌, ◌%◌, ◌^◌, Bool, ◌&&◌, ◌||◌, nat_lt, nat_le, List, [], map, flat_map, Option, Some, None, if◌then◌else◌}
 use Rattle.std.specs.List.{range_with_len}
 use Rattle.vx_rows.specs.declared.row.Addressing.{Addressing}
 use Rattle.vx_rows.specs.declared.row.Addressing.TheVariants.{Unit, FaultOnlyFirst, Whole, MaskBits, Strided, Unordered, Ordered}
+use Rattle.vx_rows.specs.Table.{class_of}
+use Rattle.vx_rows.specs.declared.row.Class.{Class}
+use Rattle.vx_rows.specs.declared.row.Class.TheVariants as class
 use Rattle.vx_rows.specs.declared.row.Eew.{Eew}
 use Rattle.vx_vstate.specs.Groups.{registers_of_group}
 use Rattle.vx_decode.specs.Groups.{bits_of_eew, moved}
@@ -41,6 +44,39 @@ pub record Movement : Type 0 where
   pub base : ℕ
   pub stride : ℕ
   pub words : List ℕ
+
+-- the movement of a row with this addressing, which encodes this width
+abbrev pub movement : Addressing → Eew → Instr → SettingView → (base stride : ℕ) → (words : List ℕ) → Movement
+movement addressing encoded i at base stride words = record {
+  addressing = addressing;
+  encoded = encoded;
+  i = i;
+  at = at;
+  base = base;
+  stride = stride;
+  words = words;
+}
+
+-- that of an instruction of a class, where it is a vector load or store
+abbrev pub movement_as : Class → Instr → SettingView → (base stride : ℕ) → (words : List ℕ) → Option Movement
+movement_as class.Arithmetic i at base stride words = None
+movement_as class.Multiply i at base stride words = None
+movement_as class.Divide i at base stride words = None
+movement_as class.Jump i at base stride words = None
+movement_as class.Branch i at base stride words = None
+movement_as class.Load i at base stride words = None
+movement_as class.Store i at base stride words = None
+movement_as class.Fence i at base stride words = None
+movement_as class.Ecall i at base stride words = None
+movement_as class.Ebreak i at base stride words = None
+movement_as class.Csr i at base stride words = None
+movement_as class.Set i at base stride words = None
+movement_as (class.VectorArithmetic family) i at base stride words = None
+movement_as (class.VectorLoad addressing encoded) i at base stride words = Some (movement addressing encoded i at base stride words)
+movement_as (class.VectorStore addressing encoded) i at base stride words = Some (movement addressing encoded i at base stride words)
+
+abbrev pub movement_of : Instr → SettingView → (base stride : ℕ) → (words : List ℕ) → Option Movement
+movement_of i at base stride words = movement_as (class_of i.op) i at base stride words
 
 -- the width of what is moved, in bits, where the group's elements have this EEW: a mask is moved by bytes
 abbrev pub moved_width : Addressing → (eew : ℕ) → ℕ

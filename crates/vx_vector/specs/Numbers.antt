@@ -25,10 +25,6 @@ pub record Numbers : Type 0 where
 abbrev pub plain : ℕ → Sat
 plain value = record { value = value; sat = false }
 
--- 1 where a condition holds
-abbrev pub truth : Bool → ℕ
-truth holds = if holds then 1 else 0
-
 -- the bit is set
 abbrev pub is_set : ℕ → Bool
 is_set bit = bit == 1

@@ -2,7 +2,7 @@
 -- element of vs2, b that of vs1, of the integer register or of the number, d the old element and m the bit of v0; results
 -- are reduced to the width of the destination.
 use Rattle.std.specs.Prelude.{ℕ, ◌+◌, ◌-◌, ◌*◌, ◌%◌, ◌^◌, Bool, not, ◌==◌, ◌&&◌, ◌||◌, nat_lt, nat_le, min, max, bit_and, bit_or, bit_xor, ℤ, pos, ◌+ℤ◌, ◌-ℤ◌, ◌*ℤ◌, if◌then◌else◌, true, false, ◌/◌, Option, Some, unwrap_or}
-use Rattle.vx_base.specs.Numbers.{reduced}
+use Rattle.vx_base.specs.Numbers.{reduced, truth}
 use Rattle.vx_bits.specs.Arithmetic.{sum_at, difference_at, product_at, signed_high_at, unsigned_high_at, mixed_high_at, signed_quotient_at, unsigned_quotient_at, signed_remainder_at, unsigned_remainder_at, shifted_left_at, shifted_right_at, sign_shifted_right_at}
 use Rattle.vx_bits.specs.Saturation.{fitted_at, unsigned_saturated_sum_at, signed_saturated_sum_at, unsigned_saturated_difference_at, signed_saturated_difference_at}
 use Rattle.vx_bits.specs.Rounding.{rounded}
@@ -11,7 +11,7 @@ use Rattle.vx_bits.specs.declared.saturation.Sat.{Sat}
 use Rattle.vx_rows.specs.declared.family.Family.{Family}
 use Rattle.vx_rows.specs.declared.family.Family.TheVariants.{Vadd, Vsub, Vrsub, Vminu, Vmin, Vmaxu, Vmax, Vand, Vor, Vxor, Vmerge, VmvV, Vsll, Vsrl, Vsra, Vmv1r, Vmv2r, Vmv4r, Vmv8r, VzextVf8, VsextVf8, VzextVf4, VsextVf4, VzextVf2, VsextVf2, Vdivu, Vdiv, Vremu, Vrem, Vmulhu, Vmul, Vmulhsu, Vmulh, Vmadd, Vnmsub, Vmacc, Vnmsac, Vadc, Vmadc, Vsbc, Vmsbc, Vmseq, Vmsne, Vmsltu, Vmslt, Vmsleu, Vmsle, Vmsgtu, Vmsgt, Vnsrl, Vnsra, Vwaddu, Vwadd, Vwsubu, Vwsub, VwadduW, VwaddW, VwsubuW, VwsubW, Vwmulu, Vwmulsu, Vwmul, Vwmaccu, Vwmacc, Vwmaccus, Vwmaccsu, Vsaddu, Vsadd, Vssubu, Vssub, Vsmul, Vssrl, Vssra, Vnclipu, Vnclip, Vaaddu, Vaadd, Vasubu, Vasub, Vredsum, Vredand, Vredor, Vredxor, Vredminu, Vredmin, Vredmaxu, Vredmax, Vwredsumu, Vwredsum, VmvXS, Vcpop, Vfirst, Vmsbf, Vmsof, Vmsif, Viota, Vid, Vmandn, Vmand, Vmor, Vmxor, Vmorn, Vmnand, Vmnor, Vmxnor, Vrgather, Vrgatherei16, Vslideup, Vslidedown, Vslide1up, Vslide1down, VmvSX, Vcompress}
 use Rattle.vx_vector.specs.Lists.{Lists, element_or_zero, gather_index, slid_up, marks, marks_below, count_true, first_true}
-use Rattle.vx_vector.specs.Numbers.{Numbers, plain, truth, is_set, is_less_at, extended_at, amount_at, rounded_at}
+use Rattle.vx_vector.specs.Numbers.{Numbers, plain, is_set, is_less_at, extended_at, amount_at, rounded_at}
 
 -- how a family's result comes
 pub data Rule : Type 0 where

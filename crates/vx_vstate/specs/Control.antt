@@ -1,6 +1,7 @@
 -- The vector control registers, one line each: number, name, what is read, and which bits are kept of what is written.
 -- RISC-V "V" 1.0, sections 3 to 3.10; vstart keeps the low bits that number the bits of a register, log2 of VLEN of them.
 use Rattle.std.specs.Prelude.{ℕ, ◌+◌, ◌*◌, ◌/◌, ◌%◌, Bool, ◌==◌, Option, Some, None, option_map, option_and_then, if◌then◌else◌}
+use Rattle.vx_base.specs.Numbers.{truth}
 use Rattle.vx_vstate.specs.State.{VectorState}
 
 pub data Control : Type 0 where
@@ -24,14 +25,11 @@ control_of number =
     if number == 0xc22 then Some Vlenb else
     None
 
-abbrev pub bit : Bool → ℕ
-bit b = if b then 1 else 0
-
 abbrev pub value_of : Control → VectorState → ℕ
 value_of Vstart s = s.vstart
-value_of Vxsat s = bit s.vxsat
+value_of Vxsat s = truth s.vxsat
 value_of Vxrm s = s.vxrm
-value_of Vcsr s = 2 * s.vxrm + bit s.vxsat
+value_of Vcsr s = 2 * s.vxrm + truth s.vxsat
 value_of Vl s = s.vl
 value_of Vtype s = s.vtype
 -- the bytes of a register

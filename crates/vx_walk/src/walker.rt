@@ -6,7 +6,8 @@ ghost use Rattle.vx_tables.specs.Entries.{frame_in};
 ghost use Rattle.vx_tables.specs.Residency.{Residency, pages_of};
 ghost use Rattle.vx_tables.specs.Tables.{AreHeld};
 ghost use Rattle.vx_tables.specs.Walking.{first_stage, stage_behind, stage_after, Agree, CanTick, CanWrite, IsOfLevels, IsWalk, Ticks, WalkTicks};
-ghost use Rattle.vx_tables.specs.Walks.{is_canonical, entry_word, written_entry};
+ghost use Rattle.vx_image.specs.Pages.{is_canonical};
+ghost use Rattle.vx_tables.specs.Walks.{entry_word, written_entry};
 ghost use Rattle.vx_tables.specs.declared.stage.TableEntry.{TableEntry};
 
 use crate::entry::{frame_of, is_pointer, leaf_answer, leaf_written};

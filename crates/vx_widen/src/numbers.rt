@@ -1,8 +1,8 @@
 ghost use Rattle.std.specs.Prelude.{IsTrue, ◌≡◌, pos, ◌+◌, ◌*◌, ◌^◌, ◌%◌, ◌<◌, ◌+ℤ◌, ◌-ℤ◌, ◌*ℤ◌, nat_le, nat_lt};
-ghost use Rattle.vx_base.specs.Numbers.{reduced};
+ghost use Rattle.vx_base.specs.Numbers.{reduced, truth};
 ghost use Rattle.vx_bits.specs.Arithmetic.{shifted_right_at, sign_shifted_right_at};
 ghost use Rattle.vx_bits.specs.Width.{is_width, signed_at};
-ghost use Rattle.vx_vector.specs.Numbers.{plain, truth};
+ghost use Rattle.vx_vector.specs.Numbers.{plain};
 
 use vx_bits::{Sat, add_at, low, reduce, signed_reading, sra_at, srl_at};
 

@@ -3,7 +3,7 @@ use Rattle.std.proofs.Common.{◌≡◌, ◌^◌, ◌<◌, Bool, not, ◌&&◌, 
 use Rattle.std.specs.Prelude.{bit_xor}
 use Rattle.std.specs.Int.{bit_not}
 use Rattle.std.proofs.lemmas.Nat.{or_lt, xor_lt}
-use Rattle.vx_packed.specs.Made.{truth}
+use Rattle.vx_base.specs.Numbers.{truth}
 use Rattle.vx_rows.specs.declared.family.Family.{Family}
 use Rattle.vx_operands.specs.Lanes.{answer}
 use Rattle.vx_mask.proofs.Bitwise.{set, and_lane, or_lane, xor_lane, not_lane, set_of, same_bits, differ}

@@ -2,7 +2,7 @@
 use Rattle.vx_vstate.specs.Views.{view_of}
 use Rattle.std.proofs.Common.{◌≡◌, ℕ, ◌+◌, ◌*◌, ◌/◌, ◌^◌, ◌-◌, ◌<◌, ◌≤◌, ◌∙◌, Bool, true, false, ◌&&◌, nat_eq, leb, ltb, Option, Some, None, option_map, if◌then◌else◌, sym, ap, subst, arith, refl}
 use Rattle.vx_packed.specs.Joined.{lane}
-use Rattle.vx_packed.specs.Made.{truth}
+use Rattle.vx_base.specs.Numbers.{truth}
 use Rattle.vx_rows.specs.declared.family.Operand.{Operand}
 use Rattle.vx_rows.specs.declared.family.Operands.{Operands}
 use Rattle.vx_rows.specs.Families.{operands_of}

@@ -2,7 +2,7 @@
 use Rattle.std.proofs.Common.{sym, ap}
 use Rattle.vx_rows.specs.declared.row.Class.{Class}
 use Rattle.vx_vstate.specs.Views.{view_of}
-use Rattle.vx_vaddr.specs.Movements.{movement, movement_as}
+use Rattle.vx_vector.specs.Accesses.{movement, movement_as}
 use Rattle.vx_vaddr.proofs.instruction.accesses.Goals as goal
 
 pub known_accesses-requires-clause-legal : goal.known_accesses-requires-clause-legal

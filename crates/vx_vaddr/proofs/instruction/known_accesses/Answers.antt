@@ -2,10 +2,9 @@
 use Rattle.std.proofs.Common.{◌<◌, ◌≤◌, sym, ap, ◌∙◌, subst}
 use Rattle.vx_vstate.specs.Registers.{words_of_all}
 use Rattle.vx_vstate.specs.Views.{view_of}
-use Rattle.vx_vector.specs.Accesses.{Movement, movement_count}
+use Rattle.vx_vector.specs.Accesses.{Movement, movement_count, movement}
 use Rattle.vx_vector.specs.Batches.{accesses_of_batch, batch_at, most_of_batch}
 use Rattle.vx_vector.specs.Movements.{IsSoundMovement}
-use Rattle.vx_vaddr.specs.Movements.{movement}
 use Rattle.vx_vaddr.proofs.instruction.known_accesses.Goals as goal
 
 pub next_batch-requires-clause-same : goal.next_batch-requires-clause-same

@@ -1,8 +1,7 @@
 -- The word at the pc, its instruction, and what that does.
 use Rattle.std.proofs.Common.{◌≡◌, ℕ, Some, None, refl, sym, ap, ◌∙◌}
 use Rattle.vx_base.specs.declared.machine.Want.TheVariants.{Fetch}
-use Rattle.vx_image.specs.Pages.{Memory}
-use Rattle.vx_flat.specs.Memory.{permits}
+use Rattle.vx_image.specs.Pages.{Memory, permits}
 use Rattle.vx_flat.specs.Process.{Process, after}
 use Rattle.vx_flat.specs.Outcome.{faulted}
 use Rattle.vx_flat.specs.Step.{meaning, performed, upcoming, word_at_pc}

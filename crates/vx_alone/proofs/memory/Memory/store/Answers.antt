@@ -2,8 +2,8 @@
 use Rattle.std.proofs.Common.{◌≡◌, ℕ, ◌+◌, ◌*◌, ◌%◌, ◌++◌, List, take, drop, length, vec_len, sym, ap, ◌∙◌, arith}
 use Rattle.std.proofs.lemmas.List.{with_items_is}
 use Rattle.vx_base.specs.Numbers.{little_endian}
-use Rattle.vx_image.specs.Pages.{Memory}
-use Rattle.vx_flat.specs.Memory.{put_bytes, page_of}
+use Rattle.vx_image.specs.Pages.{Memory, page_of}
+use Rattle.vx_flat.specs.Memory.{put_bytes}
 use Rattle.vx_image.specs.Kept.{pages_of}
 use Rattle.vx_alone.proofs.Numbers.{length-little_endian}
 use Rattle.vx_alone.proofs.Accesses.{put_on_page, ends_on_page}

@@ -2,8 +2,8 @@
 use Rattle.std.proofs.Common.{◌≡◌, ℕ, ◌+◌, ◌*◌, ◌%◌, List, take, drop, length, refl, sym, ap, ◌∙◌, arith}
 use Rattle.vx_base.specs.Numbers.{from_little_endian}
 use Rattle.vx_base.specs.declared.machine.Want.TheVariants.{Fetch}
-use Rattle.vx_image.specs.Pages.{Memory}
-use Rattle.vx_flat.specs.Memory.{permits, bytes_at, page_of}
+use Rattle.vx_image.specs.Pages.{Memory, permits, page_of}
+use Rattle.vx_flat.specs.Memory.{bytes_at}
 use Rattle.vx_alone.proofs.Accesses.{bytes_on_page, ends_on_page}
 use Rattle.vx_alone.proofs.memory.Memory.word.Goals as goal
 
