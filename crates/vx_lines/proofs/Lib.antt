@@ -1,0 +1,9 @@
+mod Choices
+mod Cuts
+mod Mnemonics
+mod Numerals
+mod Readings
+mod Rows
+mod Source
+mod Whole
+mod Written
