@@ -3,7 +3,7 @@
 //!
 //! It stands on `vx_rows` and, for the setting, on `vx_vstate`. To the crates above it gives `Instr` and, as a definition
 //! and as `decode`, the instruction that a word means; `KnownWords`, which decodes a word once; `encode`, its inverse both
-//! ways, and the law that the instruction of a word is valid; and, as definitions, the groups of registers that a vector
+//! ways, and the laws that the instruction of a word is valid and has that word; and, as definitions, the groups of registers that a vector
 //! instruction's operands are and the rules by which it is illegal, with `legal`, which is exact.
 #![tactic(auto)]
 
@@ -21,7 +21,7 @@ mod rules;
 mod vector;
 
 pub use decoder::{decode, decoded_is_valid};
-pub use encoder::encode;
+pub use encoder::{decoded_has_its_word, encode};
 pub use group::Group;
 pub use instr::Instr;
 pub use known::Known;

@@ -60,11 +60,11 @@ unfolding operand_faults on_with
 one-on end piece pieces ways [] e = ap (λ (ws : List (List Slot)). elim ws as (λ _. List Fault) [
   | [] ↦ fault_at BadOperand piece ∷ []
   | way ∷ more ↦ first_slot_faults [] piece way ++ operand_faults [] end (map (drop 1) (way ∷ more)) pieces
-  ]) e
+]) e
 one-on end piece pieces ways (first ∷ others) e = ap (λ (ws : List (List Slot)). elim ws as (λ _. List Fault) [
   | [] ↦ fault_at BadOperand piece ∷ []
   | way ∷ more ↦ first_slot_faults [] piece way ++ operand_faults [] end (map (drop 1) (way ∷ more)) pieces
-  ]) e
+]) e
 
 kept-all : (f : List Slot → List Slot) (slot : Slot) (piece : Piece) (ways : List (List Slot)) → takes slot piece ≡ true → filter (go_on_with piece) (map (λ (s : List Slot). slot ∷ f s) ways) ≡ map (λ (s : List Slot). slot ∷ f s) ways
 kept-all f slot piece [] taken = refl

@@ -223,8 +223,8 @@ plain-step i kind kinds start plain apart is later =
     let r = later behind in
     let fill : Fill (comma ∷ plain_way kind) (comma_piece start ∷ own) = (refl, refl, k.fill) in
     let pieces : tokens_of start (more_cuts i (kind ∷ kinds)) ≡ (comma_piece start ∷ own) ++ more =
-        ap (λ b. tokens_of start (cond b (mark (codes ",") ∷ gap ∷ (operand_cuts i kind ++ more_cuts i kinds)) (more_cuts i kinds))) (written-plain i kind plain)
-        ∙ ap (λ (ps : List Piece). comma_piece start ∷ ps) (tokens-join at (operand_cuts i kind) (more_cuts i kinds)) in
+    ap (λ b. tokens_of start (cond b (mark (codes ",") ∷ gap ∷ (operand_cuts i kind ++ more_cuts i kinds)) (more_cuts i kinds))) (written-plain i kind plain)
+    ∙ ap (λ (ps : List Piece). comma_piece start ∷ ps) (tokens-join at (operand_cuts i kind) (more_cuts i kinds)) in
     let made : AreRead i (kind ∷ kinds) (map (λ (slots : List Slot). (comma ∷ plain_way kind) ++ slots) (ways_behind_commas kinds)) ((comma_piece start ∷ own) ++ more) = record {
       way = (comma ∷ plain_way kind) ++ r.way;
       chosen = chooses-front (ways_behind_commas kinds) r.way (comma ∷ plain_way kind) (comma_piece start ∷ own) more fill r.chosen;

@@ -125,8 +125,8 @@ within number range z inside h =
     let parts = and_parts (int_le range.least (bounds_of number).least) (int_le (bounds_of number).greatest range.greatest) inside in
     let b = between number z h in
     and_from (int_le range.least z) (int_le z range.greatest)
-      (le-to range.least z (le-trans range.least (bounds_of number).least z (le-from _ _ parts.0) b.0))
-      (le-to z range.greatest (le-trans z (bounds_of number).greatest range.greatest b.1 (le-from _ _ parts.1)))
+    (le-to range.least z (le-trans range.least (bounds_of number).least z (le-from _ _ parts.0) b.0))
+    (le-to z range.greatest (le-trans z (bounds_of number).greatest range.greatest b.1 (le-from _ _ parts.1)))
 
 small-by : (z : ℤ) → neg_ℤ (pos (2 ^ 32)) ≤ℤ z → z ≤ℤ pos (2 ^ 32) → unsigned_abs z < 2 ^ 33
 small-by (pos n) low high = omega (arith, ints, low, high)
@@ -342,15 +342,15 @@ all-given layout i kinds has e =
     let r = and_parts (not layout.rs2 || list_any sets_rs2 kinds) _ q.1 in
     let s = and_parts (is_absent layout.number || list_any sets_imm kinds) _ r.1 in
     same-code (with_operands i kinds first) i
-      (kept (λ (c : Code). c.expansion) i (expansion-one i) kinds first)
-      (kept (λ (c : Code). c.target) i (target-one i) kinds first)
-      (kept (λ (c : Code). c.instr.op) i (op-one i) kinds first)
-      (after (λ (c : Code). c.instr.rd) i.rd sets_rd i (rd-one i) kinds first ∙ register-given layout.rd (list_any sets_rd kinds) i.rd has.rd p.0)
-      (after (λ (c : Code). c.instr.rs1) i.rs1 sets_rs1 i (rs1-one i) kinds first ∙ register-given layout.rs1 (list_any sets_rs1 kinds) i.rs1 has.rs1 q.0)
-      (after (λ (c : Code). c.instr.rs2) i.rs2 sets_rs2 i (rs2-one i) kinds first ∙ register-given layout.rs2 (list_any sets_rs2 kinds) i.rs2 has.rs2 r.0)
-      (after (λ (c : Code). c.instr.imm) i.imm sets_imm i (imm-one i) kinds first ∙ number-given layout.number (list_any sets_imm kinds) i.imm has.imm s.0)
-      (vm-after i kinds first ∙ vm-given layout.vm (list_any sets_vm kinds) i.vm has.vm s.1)
-      (kept (λ (c : Code). c.instr.nf) i (nf-one i) kinds first)
+    (kept (λ (c : Code). c.expansion) i (expansion-one i) kinds first)
+    (kept (λ (c : Code). c.target) i (target-one i) kinds first)
+    (kept (λ (c : Code). c.instr.op) i (op-one i) kinds first)
+    (after (λ (c : Code). c.instr.rd) i.rd sets_rd i (rd-one i) kinds first ∙ register-given layout.rd (list_any sets_rd kinds) i.rd has.rd p.0)
+    (after (λ (c : Code). c.instr.rs1) i.rs1 sets_rs1 i (rs1-one i) kinds first ∙ register-given layout.rs1 (list_any sets_rs1 kinds) i.rs1 has.rs1 q.0)
+    (after (λ (c : Code). c.instr.rs2) i.rs2 sets_rs2 i (rs2-one i) kinds first ∙ register-given layout.rs2 (list_any sets_rs2 kinds) i.rs2 has.rs2 r.0)
+    (after (λ (c : Code). c.instr.imm) i.imm sets_imm i (imm-one i) kinds first ∙ number-given layout.number (list_any sets_imm kinds) i.imm has.imm s.0)
+    (vm-after i kinds first ∙ vm-given layout.vm (list_any sets_vm kinds) i.vm has.vm s.1)
+    (kept (λ (c : Code). c.instr.nf) i (nf-one i) kinds first)
 
 -- ---- the table
 

@@ -202,17 +202,17 @@ source-of source line b tokens word read statement =
     let twice : twice_faults [] (labels_in (lines source)) ≡ [] = ap (λ (l : List Line). twice_faults [] (labels_in l)) read.lines ∙ ap (twice_faults []) none in
     let names : label_names ls ≡ [] = ap (map (λ (label : Piece). label.text)) none in
     let placed : placed_faults (label_names (lines source)) (layout source).lines ≡ [] =
-        ap (λ (l : List Line). placed_faults (label_names l) (placed_from (label_names l) first_place l)) read.lines
-        ∙ (ap (λ (n : List (List ℕ)). placed_faults n (placed_from n first_place ls)) names
-        ∙ placed-none line b end own large) in
+    ap (λ (l : List Line). placed_faults (label_names l) (placed_from (label_names l) first_place l)) read.lines
+    ∙ (ap (λ (n : List (List ℕ)). placed_faults n (placed_from n first_place ls)) names
+    ∙ placed-none line b end own large) in
     let plain : plain_faults source ≡ [] = three-none (lexical_faults source) (twice_faults [] (labels_in (lines source))) (placed_faults (label_names (lines source)) (layout source).lines) read.lexical twice placed in
     let reach : reach_faults (layout source) ≡ [] =
-        ap (λ (l : List Line). reach_faults (layout_of_lines l)) read.lines
-        ∙ reach-none word (layout_of_lines ls) line b end tokens first_place read.statement statement (label_names ls) in
+    ap (λ (l : List Line). reach_faults (layout_of_lines l)) read.lines
+    ∙ reach-none word (layout_of_lines ls) line b end tokens first_place read.statement statement (label_names ls) in
     record {
       faultless = ap (λ (fs : List Fault). cond (is_faultless fs) (reach_faults (layout source)) fs) plain ∙ reach;
       code = ap (λ (l : List Line). flat_map chunk_bytes (map (chunk_at (layout_of_lines l)) (filter (is_in OfCode) (layout_of_lines l).lines))) read.lines
-        ∙ code-is word (layout_of_lines ls) line b end tokens read.statement statement (label_names ls);
+          ∙ code-is word (layout_of_lines ls) line b end tokens read.statement statement (label_names ls);
     }
 
 pub source-is : (cuts : List Cut) (b : Bool) (word : ℕ) → AreCuts cuts (ending b) → IsStatement (tokens_of 0 cuts) word → IsSourceOf (bytes_of cuts ++ ending b) word
@@ -225,10 +225,10 @@ source-is cuts b word are statement =
     let cut : pieces source ≡ pieces_of 0 cuts ++ ending_pieces b (0 + behind) = pieces-cut cuts (ending b) 0 are ∙ ap (λ (ps : List Piece). pieces_of 0 cuts ++ ps) (pieces-end b (0 + behind)) in
     let all : list_all is_source_byte source ≡ true = list_all-append is_source_byte (bytes_of cuts) (ending b) ∙ (ap (λ c. c && list_all is_source_byte (ending b)) (bytes-good cuts (ending b) are) ∙ bytes-end b) in
     let bad : filter is_bad (pieces source) ≡ [] =
-        ap (filter is_bad) cut
-        ∙ (filter-append is_bad (pieces_of 0 cuts) (ending_pieces b (0 + behind))
-        ∙ (ap (λ (ps : List Piece). ps ++ filter is_bad (ending_pieces b (0 + behind))) (filter-none is_bad (pieces_of 0 cuts) (no-piece is_bad cut-good cuts (ending b) 0 are))
-        ∙ bad-end b (0 + behind))) in
+    ap (filter is_bad) cut
+    ∙ (filter-append is_bad (pieces_of 0 cuts) (ending_pieces b (0 + behind))
+    ∙ (ap (λ (ps : List Piece). ps ++ filter is_bad (ending_pieces b (0 + behind))) (filter-none is_bad (pieces_of 0 cuts) (no-piece is_bad cut-good cuts (ending b) 0 are))
+    ∙ bad-end b (0 + behind))) in
     let seen : lexemes source ≡ toks ++ filter is_token (ending_pieces b (0 + behind)) = ap (filter is_token) cut ∙ filter-append is_token (pieces_of 0 cuts) (ending_pieces b (0 + behind)) in
     let line : Line = record { tokens = toks; end = first_end b (0 + behind) end } in
     let colons : list_any (is_the_mark (codes ":")) toks ≡ false = no-token (is_the_mark (codes ":")) cut-no-colon cuts (ending b) 0 are in

@@ -4,7 +4,6 @@ use Rattle.std.specs.Prelude.{◌==◌, codes, find, count_by, int_le}
 use Rattle.std.specs.List.{list_all, list_any, prefix_len}
 use Rattle.std.proofs.lemmas.Bool.{and_parts, and_from, false≢true, eqb-true}
 use Rattle.std.proofs.lemmas.Int.{ints}
-use Rattle.std.proofs.lemmas.Option.{same_Some, none-some}
 use Rattle.std.proofs.Math.Nat.{pow-suc}
 use Rattle.std.proofs.lemmas.List.{append-nil, length-append}
 use Rattle.std.proofs.lemmas.List.Folds.{list_all-append}
@@ -68,7 +67,7 @@ unfolding named_faults
 named-is end first operands f forms e = ap (λ (fs : List Form). elim fs as (λ _. List Fault) [
   | [] ↦ fault_at UnknownName first ∷ []
   | g ∷ more ↦ operand_faults [] end (map (λ (h : Form). h.slots) (g ∷ more)) operands
-  ]) e
+]) e
 
 named-from : (first : Piece) (operands : List Piece) (way : List Slot) (forms : List Form) → forms_for first operands ≡ forms → Chooses (map (λ (f : Form). f.slots) forms) way operands → (end : ℕ) → named_faults [] end first operands ≡ []
 named-from first operands way [] e chosen end = absurd (let found = chosen.found in cc)
@@ -141,9 +140,9 @@ no-operands i named none =
     record {
       way = [];
       formed = λ first same. form-alone (with_nf i.op i.nf) first
-        (forms-are 0 first.text (with_nf i.op i.nf) (ap instr_named same ∙ named.named)
-        ∙ (none-others (others_of 0 first.text) (mades first.text (with_nf i.op i.nf) (operand_ways (operand_kinds i.op))) (ap (λ (t : List ℕ). is_none_of (others_of 0 t)) same ∙ other 0)
-        ∙ ap (λ (ks : List OperandKind). mades first.text (with_nf i.op i.nf) (operand_ways ks)) none));
+          (forms-are 0 first.text (with_nf i.op i.nf) (ap instr_named same ∙ named.named)
+          ∙ (none-others (others_of 0 first.text) (mades first.text (with_nf i.op i.nf) (operand_ways (operand_kinds i.op))) (ap (λ (t : List ℕ). is_none_of (others_of 0 t)) same ∙ other 0)
+          ∙ ap (λ (ks : List OperandKind). mades first.text (with_nf i.op i.nf) (operand_ways ks)) none));
       gives = refl;
       reach = λ aim. refl;
     }
@@ -185,22 +184,22 @@ some-operands i kind kinds start named is plain right shown =
     let way : List Slot = plain_way kind ++ r.way in
     let ways : operand_ways (operand_kinds i.op) ≡ map (λ (slots : List Slot). plain_way kind ++ slots) (ways_behind_commas kinds) = ap operand_ways is ∙ ways-first kind kinds plain in
     let chosen : Chooses (operand_ways (operand_kinds i.op)) way (own ++ later) =
-        subst (λ (ws : List (List Slot)). Chooses ws way (own ++ later)) (sym ways) (chooses-front (ways_behind_commas kinds) r.way (plain_way kind) own later k.fill r.chosen) in
+    subst (λ (ws : List (List Slot)). Chooses ws way (own ++ later)) (sym ways) (chooses-front (ways_behind_commas kinds) r.way (plain_way kind) own later k.fill r.chosen) in
     let some = some-piece kind own later plain k.fill in
     let other : (commas : ℕ) → list_all (λ (f : Form). is_done f.slots) (others_of commas (mnemonic i.op i.nf)) ≡ true = λ commas. subst (λ (ks : List OperandKind). is_alone ks (others_of commas (mnemonic i.op i.nf)) ≡ true) is (named.others commas) in
     let made : IsOperands i (kind ∷ kinds) (own ++ later) = record {
       way = way;
       formed = λ first same.
-        let commas : ℕ = count_by (is_the_mark (codes ",")) (some.piece ∷ some.rest) in
-        subst (λ (ps : List Piece). IsForm bare first ps way) (sym some.is)
-        (form-from bare first some.piece some.rest way (others_of commas first.text) (operand_ways (operand_kinds i.op))
+          let commas : ℕ = count_by (is_the_mark (codes ",")) (some.piece ∷ some.rest) in
+          subst (λ (ps : List Piece). IsForm bare first ps way) (sym some.is)
+          (form-from bare first some.piece some.rest way (others_of commas first.text) (operand_ways (operand_kinds i.op))
           (forms-are commas first.text bare (ap instr_named same ∙ named.named))
           (ap (λ (t : List ℕ). list_all (λ (f : Form). is_done f.slots) (others_of commas t)) same ∙ other commas)
           (subst (λ (ps : List Piece). Chooses (operand_ways (operand_kinds i.op)) way ps) some.is chosen));
       gives =
-        filled-join (plain_way kind) r.way own later (code_of bare) k.fill
-        ∙ (ap (filled_all r.way later) (k.gives (code_of bare))
-        ∙ r.gives (with_operand i kind (code_of bare)) (λ has. imm-kept i kind (code_of bare) (not-set (list_any is_vtype kinds) (sets_imm kind) apart has)));
+          filled-join (plain_way kind) r.way own later (code_of bare) k.fill
+          ∙ (ap (filled_all r.way later) (k.gives (code_of bare))
+          ∙ r.gives (with_operand i kind (code_of bare)) (λ has. imm-kept i kind (code_of bare) (not-set (list_any is_vtype kinds) (sets_imm kind) apart has)));
       reach = λ aim. offsets-join aim (plain_way kind) r.way own later k.fill (k.reach aim) (r.reach aim);
     } in
     subst (λ (ps : List Piece). IsOperands i (kind ∷ kinds) ps) (sym (tokens-join start (operand_cuts i kind) (more_cuts i kinds))) made
@@ -226,10 +225,10 @@ statement-is word i kinds start operands same given are =
       faults = λ end. is.faults end;
       placed = no-placement first operands;
       chunk = λ aim.
-        ap (form_chunk aim 0 operands) is.found
-        ∙ (ap (λ (c : Code). Plain (instr_bytes (code_instrs aim c))) made
-        ∙ (ap (λ (bs : List ℕ). Plain bs) (append-nil (little_endian 4 (word_of i)))
-        ∙ ap (λ n. Plain (little_endian 4 n)) same));
+          ap (form_chunk aim 0 operands) is.found
+          ∙ (ap (λ (c : Code). Plain (instr_bytes (code_instrs aim c))) made
+          ∙ (ap (λ (bs : List ℕ). Plain bs) (append-nil (little_endian 4 (word_of i)))
+          ∙ ap (λ n. Plain (little_endian 4 n)) same));
       reach = λ aim. ap (λ (o : Option Form). form_offset_faults aim o operands) is.found ∙ are.reach aim;
     }
 
@@ -240,9 +239,9 @@ line-bytes i [] plain = refl
 line-bytes i (kind ∷ kinds) plain =
     let texts : operand_texts i (kind ∷ kinds) ≡ operand_text i kind ∷ operand_texts i kinds = ap (λ b. map (operand_text i) (cond b (kind ∷ filter (is_written i) kinds) (filter (is_written i) kinds))) (written-plain i kind plain) in
     ap (λ (bs : List ℕ). mnemonic i.op i.nf ++ (codes " " ++ bs))
-      (bytes-join (operand_cuts i kind) (more_cuts i kinds)
-      ∙ (ap (λ (bs : List ℕ). bs ++ bytes_of (more_cuts i kinds)) (operand-bytes i kind)
-      ∙ ap (λ (bs : List ℕ). operand_text i kind ++ bs) (more-bytes i kinds)))
+    (bytes-join (operand_cuts i kind) (more_cuts i kinds)
+    ∙ (ap (λ (bs : List ℕ). bs ++ bytes_of (more_cuts i kinds)) (operand-bytes i kind)
+    ∙ ap (λ (bs : List ℕ). operand_text i kind ++ bs) (more-bytes i kinds)))
     ∙ ap (λ (ts : List (List ℕ)). mnemonic i.op i.nf ++ listed (codes " ") ts) (sym texts)
 
 ending-stops : (b : Bool) → stops is_name_byte (ending b) ≡ true
@@ -252,9 +251,13 @@ ending-stops false = refl
 
 line-cut : (i : Instr) (kinds : List OperandKind) (b : Bool) → is_name (mnemonic i.op i.nf) ≡ true → AreShown i kinds → AreCuts (line_cuts i kinds) (ending b)
 line-cut i [] b named shown = (name-cut (mnemonic i.op i.nf) (ending b) named (ending-stops b), tt)
-line-cut i (kind ∷ kinds) b named shown =
-    (name-cut (mnemonic i.op i.nf) _ named (gap-stops []), (gap-cut _,
-    cuts-join (operand_cuts i kind) (more_cuts i kinds) (ending b) (operand-cut i kind (bytes_of (more_cuts i kinds) ++ ending b) shown.0 (apart-more i kinds (ending b) (ending-stops b))) (more-cut i kinds (ending b) shown.1 (ending-stops b))))
+line-cut i (kind ∷ kinds) b named shown = (
+  name-cut (mnemonic i.op i.nf) _ named (gap-stops []),
+  (
+    gap-cut _,
+    cuts-join (operand_cuts i kind) (more_cuts i kinds) (ending b) (operand-cut i kind (bytes_of (more_cuts i kinds) ++ ending b) shown.0 (apart-more i kinds (ending b) (ending-stops b))) (more-cut i kinds (ending b) shown.1 (ending-stops b)),
+  ),
+)
 
 line-statement : (word : ℕ) (i : Instr) (kinds : List OperandKind) → operand_kinds i.op ≡ kinds → word_of i ≡ word → HasName i → begins_plain kinds ≡ true → are_right kinds ≡ true → AreShown i kinds → with_operands i kinds (code_of (with_nf i.op i.nf)) ≡ code_of i → IsStatement (tokens_of 0 (line_cuts i kinds)) word
 line-statement word i [] is same named plain right shown given = statement-is word i [] 0 [] same given (no-operands i named is)
@@ -301,9 +304,9 @@ more-hex count n ds front =
       digits = list_all-append is_hex_digit ds (hex_digit d ∷ []) ∙ and_from (list_all is_hex_digit ds) (is_hex_digit (hex_digit d) && true) front.digits (rw p.0 refl);
       bytes = list_all-append is_source_byte ds (hex_digit d ∷ []) ∙ and_from (list_all is_source_byte ds) (is_source_byte (hex_digit d) && true) front.bytes (rw q.0 refl);
       value = λ small.
-        let below : n / 16 < 16 ^ count = sixteenth n (16 ^ count) (rw (pow-suc 16 count) at small) in
-        let before : from_digits 16 ds ≡ n / 16 = front.value below in
-        fold-append step 0 ds (hex_digit d ∷ []) ∙ omega (arith, digit, before);
+          let below : n / 16 < 16 ^ count = sixteenth n (16 ^ count) (rw (pow-suc 16 count) at small) in
+          let before : from_digits 16 ds ≡ n / 16 = front.value below in
+          fold-append step 0 ds (hex_digit d ∷ []) ∙ omega (arith, digit, before);
       size = length-append ds (hex_digit d ∷ []) ∙ omega (arith, size);
     }
 
@@ -387,10 +390,10 @@ word-statement word small =
       faults = λ end. named-from first (piece ∷ []) (Datum (either_range 32) ∷ []) (word_form ∷ []) forms (chooses-one (Datum (either_range 32) ∷ []) (piece ∷ []) (refl, fit, tt)) end;
       placed = no-placement first (piece ∷ []);
       chunk = λ aim.
-        ap (form_chunk aim 0 (piece ∷ [])) found
-        ∙ (ap (λ z. Plain (little_endian 4 (reduced 32 z) ++ [])) value
-        ∙ (ap (λ n. Plain (little_endian 4 n ++ [])) (word-reduced word small)
-        ∙ ap (λ (bs : List ℕ). Plain bs) (append-nil (little_endian 4 word))));
+          ap (form_chunk aim 0 (piece ∷ [])) found
+          ∙ (ap (λ z. Plain (little_endian 4 (reduced 32 z) ++ [])) value
+          ∙ (ap (λ n. Plain (little_endian 4 n ++ [])) (word-reduced word small)
+          ∙ ap (λ (bs : List ℕ). Plain bs) (append-nil (little_endian 4 word))));
       reach = λ aim. ap (λ (o : Option Form). form_offset_faults aim o (piece ∷ [])) found;
     }
 
@@ -404,14 +407,6 @@ word-line word b small =
 -- what is known of the words of instructions
 abbrev pub IsItsInstr : ℕ → Type 0
 IsItsInstr word = (i : Instr) → decoded word ≡ Some i → IsValid i × (word_of i ≡ word)
-
-pub its-instr : (word : ℕ) (instr : Instr) (result : ℕ) → word < 2 ^ 32 → decoded word ≡ Some instr → IsValid instr → result ≡ word_of instr → ((w : ℕ) → w < 2 ^ 32 → decoded w ≡ Some instr → w ≡ result) → IsItsInstr word
-its-instr word instr result small is valid value only i e =
-    let same : instr ≡ i = same_Some instr i (sym is ∙ e) in
-    subst (λ (j : Instr). IsValid j × (word_of j ≡ word)) same (valid, sym value ∙ sym (only word small is))
-
-pub no-instr : (word : ℕ) → decoded word ≡ None → IsItsInstr word
-no-instr word is i e = absurd (none-some i (sym is ∙ e))
 
 line-by : (word : ℕ) (b : Bool) (o : Option Instr) → decoded word ≡ o → word < 2 ^ 32 → IsItsInstr word → IsSourceOf (line_as word o ++ ending b) word
 line-by word b (Some i) e small known = let k = known i e in instr-line word b i k.0 k.1

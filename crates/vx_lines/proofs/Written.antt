@@ -295,11 +295,34 @@ are-words v has =
 
 words-cut : (b : Bool) (v : ℕ) (rest : List ℕ) → has_words v ≡ b → v < 2 ^ 33 → stops is_name_byte rest ≡ true → AreCuts (vtype_cuts b v) rest
 words-cut true v rest has small stop =
-    let are = are-words v has in
-    (name-cut _ _ are.sew_name (comma-stops []), (comma-cut _, (gap-cut _,
-    (name-cut _ _ are.lmul_name (comma-stops []), (comma-cut _, (gap-cut _,
-    (name-cut _ _ are.tail_name (comma-stops []), (comma-cut _, (gap-cut _,
-    (name-cut _ _ are.mask_name stop, tt))))))))))
+    let are = are-words v has in (
+      name-cut _ _ are.sew_name (comma-stops []),
+      (
+        comma-cut _,
+        (
+          gap-cut _,
+          (
+            name-cut _ _ are.lmul_name (comma-stops []),
+            (
+              comma-cut _,
+              (
+                gap-cut _,
+                (
+                  name-cut _ _ are.tail_name (comma-stops []),
+                  (
+                    comma-cut _,
+                    (
+                      gap-cut _,
+                      (name-cut _ _ are.mask_name stop, tt),
+                    ),
+                  ),
+                ),
+              ),
+            ),
+          ),
+        ),
+      ),
+    )
 words-cut false v rest has small stop = (signed-cut (pos v) rest small stop, tt)
 
 v0-name : (is_name (codes "v0") ≡ true) × (is_name (codes "v0.t") ≡ true)
