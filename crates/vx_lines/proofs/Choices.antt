@@ -24,12 +24,6 @@ pub record Chooses (ways : List (List Slot)) (way : List Slot) (pieces : List Pi
   pub faults : (end : ℕ) → operand_faults [] end ways pieces ≡ []
   pub found : find (λ (slots : List Slot). take_all slots pieces) ways ≡ Some way
 
-pub fill-join : (slots more : List Slot) (pieces rest : List Piece) → Fill slots pieces → Fill more rest → Fill (slots ++ more) (pieces ++ rest)
-fill-join [] more [] rest first second = second
-fill-join [] more (piece ∷ pieces) rest first second = absurd first
-fill-join (slot ∷ slots) more [] rest first second = absurd first
-fill-join (slot ∷ slots) more (piece ∷ pieces) rest first second = (first.0, first.1, fill-join slots more pieces rest first.2 second)
-
 pub filled-join : (slots more : List Slot) (pieces rest : List Piece) (code : Code) → Fill slots pieces → filled_all (slots ++ more) (pieces ++ rest) code ≡ filled_all more rest (filled_all slots pieces code)
 unfolding filled_all
 filled-join [] more [] rest code fill = refl

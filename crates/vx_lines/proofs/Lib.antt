@@ -1,7 +1,9 @@
 mod Choices
 mod Cuts
+mod Instrs
 mod Mnemonics
 mod Numerals
+mod Others
 mod Readings
 mod Rows
 mod Source

@@ -44,7 +44,7 @@ use Rattle.vx_language.specs.Names.{named_nfs, instr_named}
 use Rattle.vx_language.specs.Slots.{Range, is_within, is_offset, signed_range, unsigned_range}
 use Rattle.vx_language.specs.Statements.{is_done}
 use Rattle.vx_lines.proofs.Mnemonics.{with_nf, nfs, IsNamed, op-named}
-use Rattle.vx_lines.proofs.Numerals.{is_name, holds-below}
+use Rattle.vx_lines.proofs.Numerals.{is_name, holds-below, le-to}
 use Rattle.vx_lines.proofs.Readings.{with_operand, with_operands, is_plain, sets_imm, are_right}
 use Rattle.vx_lines.proofs.Written.{IsShown, AreShown}
 
@@ -96,9 +96,6 @@ is_shown layout operand.Carry = is_zero layout.vm
 
 le-from : (a b : ℤ) → int_le a b ≡ true → a ≤ℤ b
 le-from a b e = grind (arith, ints)
-
-le-to : (a b : ℤ) → a ≤ℤ b → int_le a b ≡ true
-le-to a b e = grind (arith, ints)
 
 le-trans : (a b c : ℤ) → a ≤ℤ b → b ≤ℤ c → a ≤ℤ c
 le-trans a b c p q = omega (arith, ints, p, q)

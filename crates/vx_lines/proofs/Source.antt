@@ -34,7 +34,7 @@ three-none a b c p q r = ap (λ (x : List Fault). x ++ b ++ c) p ∙ (ap (λ (x 
 two-none : (a b : List Fault) → a ≡ [] → b ≡ [] → a ++ b ≡ []
 two-none a b p q = ap (λ (x : List Fault). x ++ b) p ∙ ap (λ (x : List Fault). [] ++ x) q
 
-and-false : (b : Bool) → (b && false) ≡ false
+pub and-false : (b : Bool) → (b && false) ≡ false
 and-false true = refl
 and-false false = refl
 

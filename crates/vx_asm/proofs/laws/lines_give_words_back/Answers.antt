@@ -1,11 +1,11 @@
-use Rattle.std.proofs.Common.{◌≡◌, ℕ, [], Some, None, Option, Result, Ok, Err, refl, sym, ap, ◌∙◌}
+use Rattle.std.proofs.Common.{◌≡◌, ℕ, Some, None, Result, Ok, Err, refl, sym, ap, ◌∙◌}
 use Rattle.std.proofs.lemmas.Option.{none-some}
 use Rattle.std.specs.Prelude.{List}
 use Rattle.vx_elf.specs.declared.program.Program.{Program}
 use Rattle.vx_language.specs.Assembly.{IsSourceOf, first_fault}
 use Rattle.vx_language.specs.Faults.{first_of}
 use Rattle.vx_language.specs.declared.fault.Fault.{Fault}
-use Rattle.vx_asm.specs.Assembling.{Assembles, Tells, fault_told}
+use Rattle.vx_asm.specs.Assembling.{Assembles, Tells}
 use Rattle.vx_asm.specs.GivingBack.{GivesBack}
 use Rattle.vx_asm.specs.declared.asm_fault.AsmFault.{AsmFault}
 use Rattle.vx_asm.specs.declared.asm_fault.AsmFault.TheVariants.{NoMemory}
