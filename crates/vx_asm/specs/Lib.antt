@@ -1,6 +1,7 @@
 pub mod Assembling
 pub mod Defining
 pub mod Emitting
+pub mod GivingBack
 pub mod Judging
 pub mod Labelling
 pub mod Laying

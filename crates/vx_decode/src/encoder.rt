@@ -23,6 +23,11 @@ pub fn encode(i: &Instr) -> u32
     i.op.bits() | (registers | number(shape, i) | unmasked | field_bits(i.nf))
 }
 
+/// The word of the instruction that a word means is that word.
+pub fn decoded_has_its_word()
+    ensures { (word : ℕ) (i : Instr) → word < 2 ^ 32 → decoded word ≡ Some i → word_of i ≡ word }
+{}
+
 /// Bit 25, where it isn't fixed.
 fn mask_bits(vm: Vm, is_unmasked: bool) -> u32
     ensures { result ≡ vm_bits vm is_unmasked }

@@ -3,9 +3,9 @@
 //!
 //! It stands on `vx_rows` and, for the setting, on `vx_vstate`. To the crates above it gives `Instr` and, as a definition
 //! and as `decode`, the instruction that a word means; `KnownWords`, which decodes a word once; `encode`, its inverse both
-//! ways, and the law that the instruction of a word is valid; and, as definitions, the groups of registers that a vector
-//! instruction's operands are and the rules by which it is illegal, with `legal`, which is exact, and `moved`, `width_of` and
-//! `bits_of_eew`, which tell what of such a group.
+//! ways, and the laws that the instruction of a word is valid and has that word; and, as definitions, the groups of registers
+//! that a vector instruction's operands are and the rules by which it is illegal, with `legal`, which is exact, and `moved`,
+//! `width_of` and `bits_of_eew`, which tell what of such a group.
 #![tactic(auto)]
 
 mod decoder;
@@ -22,7 +22,7 @@ mod rules;
 mod vector;
 
 pub use decoder::{decode, decoded_is_valid};
-pub use encoder::encode;
+pub use encoder::{decoded_has_its_word, encode};
 pub use group::{Group, bits_of_eew, moved, width_of};
 pub use instr::Instr;
 pub use known::Known;

@@ -1,0 +1,11 @@
+mod Choices
+mod Cuts
+mod Instrs
+mod Mnemonics
+mod Numerals
+mod Others
+mod Readings
+mod Rows
+mod Source
+mod Whole
+mod Written
