@@ -276,6 +276,7 @@ impl Alone {
 
     /// Reads and changes a control register where vectors are enabled, and answers whether that is legal; where it isn't,
     /// nothing changes.
+    #[inline(never)]
     fn control(&mut self, i: Instr) -> bool
         requires running { self.old.over ≡ None }
         requires registers { NamesRegisters i }
@@ -297,6 +298,7 @@ impl Alone {
     }
 
     /// Configures vectors where they are enabled, and answers whether they are; where they aren't, nothing changes.
+    #[inline(never)]
     fn configure(&mut self, i: Instr) -> bool
         requires running { self.old.over ≡ None }
         requires registers { NamesRegisters i }
@@ -316,6 +318,7 @@ impl Alone {
     }
 
     /// Does vector arithmetic where vectors are enabled, and answers whether that is legal; where it isn't, nothing changes.
+    #[inline(never)]
     fn calculate(&mut self, i: Instr, family: Family) -> bool
         requires running { self.old.over ≡ None }
         requires valid { IsValid i }
@@ -369,6 +372,7 @@ impl Alone {
     }
 
     /// Does a vector load where that is legal, and answers whether it is; where it isn't, nothing changes.
+    #[inline(never)]
     fn load_vectors(&mut self, addressing: Addressing, encoded: Eew, i: Instr) -> bool
         requires running { self.old.over ≡ None }
         requires valid { IsValid i }
@@ -387,6 +391,7 @@ impl Alone {
     }
 
     /// Does a vector store where that is legal, and answers whether it is; where it isn't, nothing changes.
+    #[inline(never)]
     fn store_vectors(&mut self, addressing: Addressing, encoded: Eew, i: Instr) -> bool
         requires running { self.old.over ≡ None }
         requires valid { IsValid i }

@@ -164,7 +164,7 @@ fn at_sew<S: WordFile, F: Fn(Terms) -> u64>(
 
 /// Word `w` of the destination of a reduction at SEW.
 #[inline(always)]
-pub(crate) fn even_reduction<S: WordFile>(
+fn even_by_family<S: WordFile>(
     form: Form,
     file: &S,
     at: &Setting,
@@ -193,6 +193,35 @@ pub(crate) fn even_reduction<S: WordFile>(
         Family::Vredmaxu => at_sew(form, file, at, regs, sew, w, |t| t.sum.max(t.x)),
         Family::Vredmax => at_sew(form, file, at, regs, sew, w, |t| greater(sew, t.sum, t.x)),
         _ => unreachable!(),
+    }
+}
+
+/// The same. Each width stands as a literal, so that the loop over a word's lanes is one at a known width.
+#[inline(always)]
+pub(crate) fn even_reduction<S: WordFile>(
+    form: Form,
+    file: &S,
+    at: &Setting,
+    regs: &Places,
+    sew: u32,
+    w: u32,
+) -> Word
+    requires same { S.vlen file.now ≡ at.now.vlen }
+    requires sound { IsSound (reading form (view_of at.now) regs.now (S.words file.now)) }
+    requires kind { IsTrue (is_even_reduction form.family) }
+    requires registers { form.first ≡ Vector }
+    requires sew { sew ≡ sew_of (reading form (view_of at.now) regs.now (S.words file.now)) }
+    requires width { IsTrue (is_width sew) }
+    requires small { at.now.vl ≤ 65536 }
+    requires within { w < length (destination_words (reading form (view_of at.now) regs.now (S.words file.now))) }
+    ensures value { result.value ≡ made_word (reading form (view_of at.now) regs.now (S.words file.now)) w }
+    ensures sat { result.sat ≡ word_saturates (reading form (view_of at.now) regs.now (S.words file.now)) w }
+{
+    match sew {
+        8 => even_by_family(form, file, at, regs, 8, w),
+        16 => even_by_family(form, file, at, regs, 16, w),
+        32 => even_by_family(form, file, at, regs, 32, w),
+        _ => even_by_family(form, file, at, regs, sew, w),
     }
 }
 

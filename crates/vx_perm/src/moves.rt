@@ -250,7 +250,7 @@ fn by_index<S: WordFile, F: Fn(u32) -> Option<u64>>(
 
 /// Word `w` of the destination of a slide.
 #[inline(always)]
-pub(crate) fn slid_word<S: WordFile>(
+fn slid_by_family<S: WordFile>(
     form: Form,
     file: &S,
     at: &Setting,
@@ -310,9 +310,37 @@ pub(crate) fn slid_word<S: WordFile>(
     }
 }
 
+/// The same. Each width stands as a literal, so that the loop over a word's lanes is one at a known width.
+#[inline(always)]
+pub(crate) fn slid_word<S: WordFile>(
+    form: Form,
+    file: &S,
+    at: &Setting,
+    regs: &Places,
+    sew: u32,
+    w: u32,
+) -> Word
+    requires same { S.vlen file.now ≡ at.now.vlen }
+    requires sound { IsSound (reading form (view_of at.now) regs.now (S.words file.now)) }
+    requires kind { IsTrue (is_slide form.family) }
+    requires vs2 { (operands_of form.family).vs2 ≡ Single }
+    requires sew { sew ≡ sew_of (reading form (view_of at.now) regs.now (S.words file.now)) }
+    requires width { IsTrue (is_width sew) }
+    requires within { w < length (destination_words (reading form (view_of at.now) regs.now (S.words file.now))) }
+    ensures value { result.value ≡ made_word (reading form (view_of at.now) regs.now (S.words file.now)) w }
+    ensures sat { result.sat ≡ word_saturates (reading form (view_of at.now) regs.now (S.words file.now)) w }
+{
+    match sew {
+        8 => slid_by_family(form, file, at, regs, 8, w),
+        16 => slid_by_family(form, file, at, regs, 16, w),
+        32 => slid_by_family(form, file, at, regs, 32, w),
+        _ => slid_by_family(form, file, at, regs, sew, w),
+    }
+}
+
 /// Word `w` of the destination of a gather.
 #[inline(always)]
-pub(crate) fn gathered_word<S: WordFile>(
+fn gathered_by_index<S: WordFile>(
     form: Form,
     file: &S,
     at: &Setting,
@@ -342,4 +370,33 @@ pub(crate) fn gathered_word<S: WordFile>(
         w,
         |i| gathered(form, file, at, regs, sew, most, width, i),
     )
+}
+
+/// The same. Each width stands as a literal.
+#[inline(always)]
+pub(crate) fn gathered_word<S: WordFile>(
+    form: Form,
+    file: &S,
+    at: &Setting,
+    regs: &Places,
+    sew: u32,
+    w: u32,
+) -> Word
+    requires same { S.vlen file.now ≡ at.now.vlen }
+    requires sound { IsSound (reading form (view_of at.now) regs.now (S.words file.now)) }
+    requires kind { IsTrue (is_gather form.family) }
+    requires group { IsIndexed (reading form (view_of at.now) regs.now (S.words file.now)) }
+    requires vs2 { (operands_of form.family).vs2 ≡ Single }
+    requires sew { sew ≡ sew_of (reading form (view_of at.now) regs.now (S.words file.now)) }
+    requires width { IsTrue (is_width sew) }
+    requires within { w < length (destination_words (reading form (view_of at.now) regs.now (S.words file.now))) }
+    ensures value { result.value ≡ made_word (reading form (view_of at.now) regs.now (S.words file.now)) w }
+    ensures sat { result.sat ≡ word_saturates (reading form (view_of at.now) regs.now (S.words file.now)) w }
+{
+    match sew {
+        8 => gathered_by_index(form, file, at, regs, 8, w),
+        16 => gathered_by_index(form, file, at, regs, 16, w),
+        32 => gathered_by_index(form, file, at, regs, 32, w),
+        _ => gathered_by_index(form, file, at, regs, sew, w),
+    }
 }

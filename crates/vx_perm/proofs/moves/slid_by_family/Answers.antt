@@ -9,7 +9,7 @@ use Rattle.vx_vector.specs.Lists.{element_or_zero, gather_index, slid_up}
 use Rattle.vx_vector.specs.Reading.{lists_of}
 use Rattle.vx_vector.specs.Rules.{rule_of}
 use Rattle.vx_perm.proofs.Facts.{slide_moves}
-use Rattle.vx_perm.proofs.moves.slid_word.Goals as goal
+use Rattle.vx_perm.proofs.moves.slid_by_family.Goals as goal
 
 pub by_index-requires-clause-moves : goal.by_index-requires-clause-moves
 by_index-requires-clause-moves g c i l o p =

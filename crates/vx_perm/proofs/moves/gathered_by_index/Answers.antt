@@ -8,7 +8,7 @@ use Rattle.vx_operands.specs.Forms.{reading}
 use Rattle.vx_vector.specs.Lists.{element_or_zero, gather_index}
 use Rattle.vx_vector.specs.Reading.{lists_of, vs1_width}
 use Rattle.vx_perm.proofs.Facts.{gather_moves, gather_takes}
-use Rattle.vx_perm.proofs.moves.gathered_word.Goals as goal
+use Rattle.vx_perm.proofs.moves.gathered_by_index.Goals as goal
 
 pub by_index-requires-clause-kind : goal.by_index-requires-clause-kind
 by_index-requires-clause-kind g c = gather_moves c.args.form.family c.requires.kind

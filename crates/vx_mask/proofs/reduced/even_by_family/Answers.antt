@@ -6,7 +6,7 @@ use Rattle.vx_rows.specs.declared.family.Family.{Family}
 use Rattle.vx_vector.specs.Numbers.{is_less_at}
 use Rattle.vx_vector.specs.Rules.{rule_of}
 use Rattle.vx_operands.specs.Rising.{reduced_by}
-use Rattle.vx_mask.proofs.reduced.even_reduction.Goals as goal
+use Rattle.vx_mask.proofs.reduced.even_by_family.Goals as goal
 
 pub at_sew-requires-clause-makes : goal.at_sew-requires-clause-makes
 at_sew-requires-clause-makes g c t v p =
