@@ -1,0 +1,12 @@
+pub mod Batches
+pub mod Commits
+pub mod Cycles
+pub mod Episode
+pub mod Examples
+pub mod Footprint
+pub mod History
+pub mod Instructions
+pub mod Log
+pub mod Ordered
+pub mod Organisation
+pub mod Show
