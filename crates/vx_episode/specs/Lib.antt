@@ -9,4 +9,5 @@ pub mod Instructions
 pub mod Log
 pub mod Ordered
 pub mod Organisation
+pub mod Played
 pub mod Show
