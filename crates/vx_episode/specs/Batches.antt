@@ -241,7 +241,7 @@ module _ (start : Start) (history : History) where
       let is_trimmed = trims f.is_fault_only_first failure in
       record {
         from = b.from;
-    after = b.after;
+        after = b.after;
         started = At started;
         looked_up = At (walks_end started walks);
         committed = Never;
