@@ -5,10 +5,9 @@ use Rattle.std.specs.Prelude.{ℕ, ◌+◌, ◌*◌, ◌/◌, ◌%◌, Bool, tru
 use Rattle.std.specs.List.{list_any}
 use Rattle.std.specs.Option.{option_map_or}
 use Rattle.vx_base.specs.declared.machine.Want.{Want}
-use Rattle.vx_base.specs.declared.machine.Want.TheVariants.{Fetch, Load, Store}
 use Rattle.vx_flat.specs.Memory.{is_canonical, offset_of}
 use Rattle.vx_tables.specs.Caches.{look_up}
-use Rattle.vx_tables.specs.Residency.{Residency, page_of, page_map, is_store}
+use Rattle.vx_tables.specs.Residency.{page_of, page_map, is_store}
 use Rattle.vx_tables.specs.declared.look.Look.{Look}
 use Rattle.vx_tables.specs.declared.look.Look.TheVariants.{Hit, Denied, Miss}
 use Rattle.vx_tables.specs.declared.walked.Walked.{Walked}
@@ -16,7 +15,7 @@ use Rattle.vx_tables.specs.declared.walked.Walked.TheVariants as walked
 use Rattle.vx_episode.specs.Cycles.{Cycle, behind, latest}
 use Rattle.vx_episode.specs.Cycles.Cycle.{At, Never}
 use Rattle.vx_episode.specs.Footprint.{Access, Batch, Footprint}
-use Rattle.vx_episode.specs.History.{History, Walk, BatchTimes, AccessTimes, Failure, last_retire, word_ready, batches_of, stops, last_passed, commit_before_last, accesses_of, bank_of, last_serve, batch_done, walks_of_batches, fetch_walks, fills_of, after_walks}
+use Rattle.vx_episode.specs.History.{History, Walk, BatchTimes, AccessTimes, Failure, last_retire, word_ready, batches_of, last_passed, commit_before_last, accesses_of, bank_of, last_serve, batch_done, walks_of_batches, fetch_walks, fills_of, after_walks}
 use Rattle.vx_episode.specs.Instructions.{Start, walk_time}
 use Rattle.vx_episode.specs.Ordered.{ordered}
 use Rattle.vx_episode.specs.Organisation.{Organisation, data_entries}

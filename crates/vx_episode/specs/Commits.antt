@@ -1,17 +1,15 @@
 -- What each instruction of an episode comes to: its times, and its commits and its stop. This project's own.
-use Rattle.std.specs.Prelude.{ℕ, Bool, true, false, not, ◌||◌, nat_le, nat_lt, List, [], ◌∷◌, ◌++◌, map, flat_map, filter, find, reverse, Option, Some, None, if◌then◌else◌}
-use Rattle.vx_base.specs.declared.machine.Want.{Want}
-use Rattle.vx_flat.specs.Continued.{continued}
+use Rattle.std.specs.Prelude.{ℕ, Bool, true, false, ◌||◌, nat_le, nat_lt, List, [], ◌∷◌, ◌++◌, map, flat_map, filter, reverse, Option, Some, None, if◌then◌else◌}
 use Rattle.vx_flat.specs.State.{Flat}
 use Rattle.vx_flat.specs.Step.{step}
 use Rattle.vx_episode.specs.Batches.{all_batches, retired_batches}
 use Rattle.vx_episode.specs.Cycles.{Cycle, behind, latest, cycles_of}
 use Rattle.vx_episode.specs.Cycles.Cycle.{At}
 use Rattle.vx_episode.specs.Footprint.{Footprint, footprint, ended_by}
-use Rattle.vx_episode.specs.History.{History, Entry, FetchTimes, BeatTimes, BatchTimes, AccessTimes, Failure, Ready, last_retire, stops, accesses_of, missing_of}
+use Rattle.vx_episode.specs.History.{History, Entry, FetchTimes, BeatTimes, BatchTimes, AccessTimes, Failure, last_retire, stops, accesses_of, missing_of}
 use Rattle.vx_episode.specs.Instructions.{Start, fetch_begin, fetch_times, issue_cycle, beat_times, words_made, words_loaded, generation_cycle, complete_cycle, retire_cycle}
 use Rattle.vx_episode.specs.declared.ended.Ended.{Ended}
-use Rattle.vx_episode.specs.declared.ended.Ended.TheVariants.{Slice, Away, Vector, Service, Faulted}
+use Rattle.vx_episode.specs.declared.ended.Ended.TheVariants.{Away}
 
 -- ---- the times of an instruction
 

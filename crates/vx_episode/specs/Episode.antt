@@ -1,6 +1,6 @@
 -- An episode: the instructions of a process from a cycle on, up to the first stop, or the first commit at or after the end of its
 -- slice. This project's own. The instructions are those of the run that goes on past loads and stores that fault.
-use Rattle.std.specs.Prelude.{ℕ, zero, suc, ◌+◌, ◌-◌, max, Bool, true, false, not, ◌&&◌, nat_le, nat_lt, List, [], ◌∷◌, ◌++◌, length, map, filter, find, Option, Some, None, unwrap_or, if◌then◌else◌}
+use Rattle.std.specs.Prelude.{ℕ, zero, suc, ◌+◌, ◌-◌, max, Bool, true, false, ◌&&◌, nat_le, nat_lt, List, [], ◌∷◌, ◌++◌, length, map, filter, find, Option, Some, None, unwrap_or, if◌then◌else◌}
 use Rattle.std.specs.List.{list_any}
 use Rattle.vx_cells.specs.declared.access.Access.{Access}
 use Rattle.vx_flat.specs.Continued.{continued}
@@ -15,7 +15,7 @@ use Rattle.vx_episode.specs.History.{History, Walk, AccessTimes, last_retire, ac
 use Rattle.vx_episode.specs.Instructions.{Start, fetch_begin}
 use Rattle.vx_episode.specs.Log.{log_up_to}
 use Rattle.vx_episode.specs.declared.ended.Ended.{Ended}
-use Rattle.vx_episode.specs.declared.ended.Ended.TheVariants.{Slice, Away, Vector, Service, Faulted}
+use Rattle.vx_episode.specs.declared.ended.Ended.TheVariants.{Slice, Faulted}
 
 -- ---- the instructions up to the end
 

@@ -1,19 +1,18 @@
 -- Small programs and when what they do comes, on which the definitions are computed. This project's own; the cycles were worked out
 -- by hand from the equations, as docs/TIMES.md shows.
-use Rattle.std.specs.Prelude.{◌≡◌, ℕ, ◌+◌, ◌*◌, ◌/◌, ◌^◌, ◌-◌, Bool, true, false, List, [], ◌∷◌, ◌++◌, map, flat_map, filter, length, replicate, reverse, take, slice_index, Option, Some, None, option_map}
+use Rattle.std.specs.Prelude.{◌≡◌, ℕ, ◌^◌, ◌-◌, true, false, List, [], ◌∷◌, ◌++◌, map, flat_map, replicate, reverse, Option, Some, None, option_map}
 use Rattle.std.specs.Option.{option_map_or}
 use Rattle.vx_base.specs.Numbers.{little_endian}
 use Rattle.vx_cells.specs.declared.access.Access as cells
 use Rattle.vx_cells.specs.declared.access.Port.{Port}
 use Rattle.vx_cells.specs.declared.access.Port.TheVariants as port
-use Rattle.vx_base.specs.declared.machine.Want.TheVariants.{Load, Store}
+use Rattle.vx_base.specs.declared.machine.Want.TheVariants.{Store}
 use Rattle.vx_flat.specs.Process.{Process}
-use Rattle.vx_flat.specs.State.{Flat}
 use Rattle.vx_image.specs.Pages.{MappedPage, Memory}
 use Rattle.vx_tables.specs.Residency.{Residency, PlacedPage, Place}
 use Rattle.vx_tables.specs.Residency.Place.{Away, Present}
 use Rattle.vx_vstate.specs.State.{VectorState}
-use Rattle.vx_episode.specs.Cycles.{Cycle, cycles_of}
+use Rattle.vx_episode.specs.Cycles.{cycles_of}
 use Rattle.vx_episode.specs.Episode.{EpisodeEnd, episode, instructions}
 use Rattle.vx_episode.specs.History.{History, Entry, BeatTimes, BatchTimes, AccessTimes}
 use Rattle.vx_episode.specs.Instructions.{Start}
@@ -147,6 +146,21 @@ loads_twice = 0x00053583 ∷ 0x00053603 ∷ 0x00000073 ∷ []
 abbrev pub stores_down : List ℕ
 stores_down = 0x00b63023 ∷ 0x0ab57427 ∷ 0x00000073 ∷ []
 
+-- jal zero, 0x8000; ecall; and, at that address, jal zero, -0x7ffc, which is back behind the first
+abbrev pub jumps : List ℕ
+jumps = 0x0000806f ∷ 0x00000073 ∷ []
+
+abbrev pub jumps_back : List ℕ
+jumps_back = 0x804f806f ∷ []
+
+-- ld a2, 0(a0); ld a3, 0(a1); ld a4, 0(a0); ecall
+abbrev pub loads_thrice : List ℕ
+loads_thrice = 0x00053603 ∷ 0x0005b683 ∷ 0x00053703 ∷ 0x00000073 ∷ []
+
+-- vadd.vv v12, v8, v8; vluxei64.v v16, (a0), v12; ecall
+abbrev pub gathers : List ℕ
+gathers = 0x02840657 ∷ 0x06c57807 ∷ 0x00000073 ∷ []
+
 -- ---- what they come to
 
 -- the program that writes, with one instruction in flight, first from cycle 100 on, and behind the service from cycle 203 on: 52 and
@@ -278,6 +292,31 @@ pub record InFlightHold : Type 0 where
   pub stops_at : ended_of (episode down 1000 down_storer) ≡ Some (ended.Away 0x12000 Store)
   pub pending : map (is_pending (record down_storer.state { pc = 0x10004 })) (0x11000 ∷ 0x11007 ∷ 0x11008 ∷ 0x12000 ∷ []) ≡ true ∷ true ∷ false ∷ true ∷ []
 
+-- pages 16 and 24 have one place in the cache of fetches, and pages 17 and 49 in that of data: each puts the other out
+abbrev pub far_jumper : Process
+far_jumper = process no_vectors 0 0 0 (record { number = 24; permissions = 5; bytes = flat_map (little_endian 4) jumps_back } ∷ []) jumps
+
+abbrev pub far_loader : Process
+far_loader = process no_vectors 0x11000 0x31000 0 (zero_page 17 ∷ zero_page 49 ∷ []) loads_thrice
+
+abbrev pub far_pages : Residency
+far_pages = code_page ∷ data_page ∷ placed_page 49 6 (Present 7 false false) ∷ []
+
+-- a gather whose first batch waits for the indices of its elements, with four lanes and a window of four
+abbrev pub gatherer : Process
+gatherer = process (eight_elements 0) 0x11000 0 0 (zero_page 17 ∷ []) gathers
+
+abbrev pub gathering : Start
+gathering = started (overlapped 4 8 4) (code_page ∷ data_page ∷ []) 0
+
+pub record WaitsHold : Type 0 where
+  pub fetches : issue_cycles (instructions (started sequential (code_page ∷ placed_page 24 5 (Present 7 false false) ∷ []) 0) 1000 far_jumper.state) ≡ 17 ∷ 35 ∷ 53 ∷ []
+  pub data_serves : serve_cycles (instructions (started sequential far_pages 0) 1000 far_loader.state) ≡ (35 ∷ []) ∷ (59 ∷ []) ∷ (83 ∷ []) ∷ [] ∷ []
+  pub data_ends : figures (episode (started sequential far_pages 0) 1000 far_loader) ≡ 89 ∷ 109 ∷ 3 ∷ 3 ∷ []
+  pub gather_starts : start_cycles (instructions gathering 1000 gatherer.state) ≡ [] ∷ (20 ∷ 37 ∷ []) ∷ [] ∷ []
+  pub gather_serves : serve_cycles (instructions gathering 1000 gatherer.state) ≡ [] ∷ (37 ∷ 41 ∷ 45 ∷ 49 ∷ 53 ∷ 57 ∷ 61 ∷ 65 ∷ []) ∷ [] ∷ []
+  pub gather_ends : figures (episode gathering 1000 gatherer) ≡ 71 ∷ 91 ∷ 2 ∷ 3 ∷ []
+
 pub record ExamplesHold : Type 0 where
   pub hi : HiHolds
   pub calculates : CalculatesHolds
@@ -286,3 +325,4 @@ pub record ExamplesHold : Type 0 where
   pub across : AcrossHolds
   pub trims : TrimsHold
   pub in_flight : InFlightHold
+  pub waits : WaitsHold

@@ -1,8 +1,8 @@
 -- What the instructions of an episode did, the newest first, and what is looked up there. This project's own. A term that speaks
 -- of an instruction, a batch or an access before the first is none: these look-ups are lists of cycles, with one at the most.
-use Rattle.std.specs.Prelude.{ℕ, zero, suc, ◌+◌, ◌*◌, ◌/◌, ◌%◌, ◌==◌, Bool, true, false, not, is_some, List, [], ◌∷◌, ◌++◌, map, flat_map, filter, find, Option, Some, None, option_map, if◌then◌else◌}
+use Rattle.std.specs.Prelude.{ℕ, zero, suc, ◌%◌, ◌==◌, Bool, false, is_some, List, [], ◌∷◌, ◌++◌, map, flat_map, find, Option, Some, None, option_map, if◌then◌else◌}
 use Rattle.std.specs.List.{list_any}
-use Rattle.std.specs.Option.{option_map_or, option_to_list}
+use Rattle.std.specs.Option.{option_to_list}
 use Rattle.vx_base.specs.declared.machine.Want.{Want}
 use Rattle.vx_flat.specs.State.{Flat}
 use Rattle.vx_rows.specs.declared.family.Unit.{Unit}
@@ -10,7 +10,7 @@ use Rattle.vx_rows.specs.declared.family.Unit.TheVariants.{Arithmetic, Multiply,
 use Rattle.vx_tables.specs.Caches.{Fill, filled_by}
 use Rattle.vx_tables.specs.Residency.{Residency, page_of, after_walk}
 use Rattle.vx_tables.specs.declared.walked.Walked.{Walked}
-use Rattle.vx_episode.specs.Cycles.{Cycle, later, behind, latest}
+use Rattle.vx_episode.specs.Cycles.{Cycle, later}
 use Rattle.vx_episode.specs.Cycles.Cycle.{At, Never}
 use Rattle.vx_episode.specs.Footprint.{Access, Footprint}
 use Rattle.vx_episode.specs.Organisation.{Organisation}

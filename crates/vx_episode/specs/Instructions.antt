@@ -1,6 +1,6 @@
 -- The timing equations of an instruction: its fetch, its issue, its beats, its completion and its retire, over what the
 -- instructions before it did. This project's own.
-use Rattle.std.specs.Prelude.{ℕ, ◌+◌, ◌*◌, ◌==◌, Bool, true, false, List, [], ◌∷◌, ◌++◌, map, flat_map, filter, Option, Some, None, if◌then◌else◌}
+use Rattle.std.specs.Prelude.{ℕ, ◌+◌, ◌*◌, ◌==◌, Bool, false, List, [], ◌∷◌, ◌++◌, map, flat_map, filter, Option, Some, None, if◌then◌else◌}
 use Rattle.std.specs.Option.{option_map_or, option_to_list}
 use Rattle.vx_base.specs.declared.machine.Want.TheVariants.{Fetch}
 use Rattle.vx_flat.specs.Memory.{is_canonical}

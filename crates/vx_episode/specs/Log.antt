@@ -1,13 +1,11 @@
 -- The accesses of an episode to physical memory, in the order of the log: by cycle, then by port, then by bank. This project's own.
-use Rattle.std.specs.Prelude.{ℕ, ◌+◌, ◌-◌, ◌*◌, ◌/◌, ◌%◌, ◌^◌, Bool, true, false, ◌==◌, ◌&&◌, ◌||◌, nat_le, nat_lt, List, [], ◌∷◌, ◌++◌, map, flat_map, filter, length, take, Option, Some, None, option_map, if◌then◌else◌, is_some}
-use Rattle.std.specs.List.{range_with_len}
+use Rattle.std.specs.Prelude.{ℕ, ◌+◌, ◌-◌, ◌*◌, ◌%◌, ◌^◌, Bool, true, false, ◌==◌, ◌&&◌, ◌||◌, nat_le, nat_lt, List, [], ◌∷◌, ◌++◌, map, flat_map, filter, Option, Some, None}
 use Rattle.std.specs.Option.{option_to_list}
 use Rattle.vx_cells.specs.Merging.{merged}
 use Rattle.vx_cells.specs.declared.access.Access as cells
 use Rattle.vx_cells.specs.declared.access.Port.{Port}
 use Rattle.vx_cells.specs.declared.access.Port.TheVariants as port
 use Rattle.vx_flat.specs.Memory.{number_at}
-use Rattle.vx_flat.specs.State.{Flat}
 use Rattle.vx_image.specs.Pages.{Memory}
 use Rattle.vx_tables.specs.Residency.{Residency, page_map}
 use Rattle.vx_tables.specs.Walks as tables
@@ -17,7 +15,7 @@ use Rattle.vx_tables.specs.declared.walked.Walked.{Walked}
 use Rattle.vx_tables.specs.declared.walked.Walked.TheVariants as walked
 use Rattle.vx_base.specs.declared.machine.Want.TheVariants.{Fetch}
 use Rattle.vx_episode.specs.Batches.{word_in}
-use Rattle.vx_episode.specs.Cycles.{Cycle, cycles_of}
+use Rattle.vx_episode.specs.Cycles.{cycles_of}
 use Rattle.vx_episode.specs.Footprint.{Access}
 use Rattle.vx_episode.specs.History.{History, Entry, Walk, AccessTimes, fetch_walks, data_walks, accesses_of, after_walks}
 use Rattle.vx_episode.specs.Instructions.{Start}

@@ -1,5 +1,5 @@
 -- What an engine leaves that has played an episode: the contract of every engine, whatever it overlaps. This project's own.
-use Rattle.std.specs.Prelude.{◌≡◌, ◌≢◌, ◌⊎◌, ℕ, ◌+◌, ◌/◌, ◌<◌, ◌≤◌, Bool, List, Option, Some, slice_index}
+use Rattle.std.specs.Prelude.{◌≡◌, ◌≢◌, ◌⊎◌, ℕ, ◌+◌, ◌/◌, ◌<◌, ◌≤◌, Bool, Some, slice_index}
 use Rattle.vx_cells.specs.Cells.{CellsState, IsLogged}
 use Rattle.vx_flat.specs.Process.{Process}
 use Rattle.vx_tables.specs.Residency.{Residency, PlacedPage, pages_of, placed}

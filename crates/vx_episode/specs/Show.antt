@@ -1,11 +1,10 @@
 -- What a hart and physical memory show of a flat state: its registers, and the bytes of the pages that are present. This project's
 -- own. A store that was cut off may have written bytes of elements that aren't committed: those that the next instruction writes
 -- again before anything reads them are pending, and may differ.
-use Rattle.std.specs.Prelude.{◌≡◌, ◌⊎◌, ℕ, ◌+◌, ◌-◌, ◌*◌, ◌%◌, ◌<◌, ◌≤◌, Bool, true, false, ◌&&◌, nat_lt, nat_le, List, [], ◌∷◌, map, filter, is_none, Option, Some, None, if◌then◌else◌}
+use Rattle.std.specs.Prelude.{◌≡◌, ◌⊎◌, ℕ, ◌+◌, ◌*◌, ◌<◌, ◌≤◌, Bool, false, ◌&&◌, nat_lt, nat_le, List, [], ◌∷◌, map, filter, is_none, Option, Some, None}
 use Rattle.std.specs.List.{list_any}
 use Rattle.vx_base.specs.Page.{byte_of_words}
 use Rattle.vx_base.specs.declared.machine.Want.TheVariants.{Store}
-use Rattle.vx_base.specs.declared.perm.PageEntry.{PageEntry}
 use Rattle.vx_cells.specs.Cells.{CellsState}
 use Rattle.vx_decode.specs.declared.instr.Instr.{Instr}
 use Rattle.vx_flat.specs.Access.{access_address, access_width}
@@ -20,7 +19,7 @@ use Rattle.vx_flat.specs.declared.upcoming.Upcoming.TheVariants.{Denied, Illegal
 use Rattle.vx_rows.specs.Table.{class_of}
 use Rattle.vx_rows.specs.declared.row.Class.{Class}
 use Rattle.vx_rows.specs.declared.row.Class.TheVariants as class
-use Rattle.vx_tables.specs.Residency.{Residency, PlacedPage, Place, pages_of, placed, IsOf}
+use Rattle.vx_tables.specs.Residency.{Residency, PlacedPage, pages_of, placed, IsOf}
 use Rattle.vx_tables.specs.Residency.Place.{Present}
 use Rattle.vx_tables.specs.Tables.{AreHeld, table_count}
 use Rattle.vx_vector.specs.Accesses.{Access, access_list}

@@ -10,7 +10,7 @@ use Rattle.vx_vector.specs.Batches.{longest_run}
 use Rattle.vx_packed.specs.Joined.{some_below}
 use Rattle.vx_episode.specs.Footprint.{footprint}
 use Rattle.vx_episode.specs.Episode.{run_on, fetched_on, episode}
-use Rattle.vx_episode.specs.Examples.{HiHolds, CalculatesHolds, LoadsHold, StoresHold, AcrossHolds, TrimsHold, InFlightHold}
+use Rattle.vx_episode.specs.Examples.{HiHolds, CalculatesHolds, LoadsHold, StoresHold, AcrossHolds, TrimsHold, InFlightHold, WaitsHold}
 use Rattle.vx_episode.specs.Show.{is_pending}
 use Rattle.vx_episode.proofs.laws.examples_hold.Goals as goal
 
@@ -42,5 +42,9 @@ in_flight : InFlightHold
 unfolding operations upcoming performed page_map after_walk walk table_walk entry_in merged after_elements longest_run some_below footprint run_on fetched_on episode is_pending
 in_flight = record { serves = refl; cut = refl; goes_ahead = refl; stops = refl; stops_at = refl; pending = refl }
 
+waits : WaitsHold
+unfolding operations upcoming performed page_map after_walk walk table_walk entry_in merged after_elements longest_run some_below footprint run_on fetched_on episode
+waits = record { fetches = refl; data_serves = refl; data_ends = refl; gather_starts = refl; gather_serves = refl; gather_ends = refl }
+
 pub returns : goal.returns
-returns c = record { hi = hi; calculates = calculates; loads = loads; stores = stores; across = across; trims = trims; in_flight = in_flight }
+returns c = record { hi = hi; calculates = calculates; loads = loads; stores = stores; across = across; trims = trims; in_flight = in_flight; waits = waits }
