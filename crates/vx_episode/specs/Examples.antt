@@ -161,6 +161,13 @@ loads_thrice = 0x00053603 ∷ 0x0005b683 ∷ 0x00053703 ∷ 0x00000073 ∷ []
 abbrev pub gathers : List ℕ
 gathers = 0x02840657 ∷ 0x06c57807 ∷ 0x00000073 ∷ []
 
+-- ld a1, 0(a0); five times addi a2, a2, 0. And the same with add a2, a1, a1 behind the load
+abbrev pub goes_on : List ℕ
+goes_on = 0x00053583 ∷ replicate 5 0x00060613
+
+abbrev pub waits_on : List ℕ
+waits_on = 0x00053583 ∷ 0x00b58633 ∷ replicate 4 0x00060613
+
 -- ---- what they come to
 
 -- the program that writes, with one instruction in flight, first from cycle 100 on, and behind the service from cycle 203 on: 52 and
@@ -309,7 +316,18 @@ gatherer = process (eight_elements 0) 0x11000 0 0 (zero_page 17 ∷ []) gathers
 abbrev pub gathering : Start
 gathering = started (overlapped 4 8 4) (code_page ∷ data_page ∷ []) 0
 
+-- a load whose page is away stops, with a window of four: three instructions behind it are issued, and the fourth is fetched, but
+-- waits for the load's retire, which never comes; where the first needs what is loaded, it isn't issued, and no other is fetched
+abbrev pub behind_stop : List ℕ → Option EpisodeEnd
+behind_stop words = episode (started (overlapped 4 8 4) (code_page ∷ placed_page 18 6 Away ∷ []) 0) 1000 (process no_vectors 0x12000 0 0 (zero_page 18 ∷ []) words)
+
+abbrev pub log_cycles : Option EpisodeEnd → List ℕ
+log_cycles e = option_map_or (λ (e : EpisodeEnd). map (λ (a : cells.Access). a.cycle) e.log) e []
+
 pub record WaitsHold : Type 0 where
+  pub stops : figures (behind_stop goes_on) ≡ 34 ∷ 54 ∷ 0 ∷ 0 ∷ []
+  pub fetched : log_cycles (behind_stop goes_on) ≡ 5 ∷ 9 ∷ 13 ∷ 17 ∷ 17 ∷ 18 ∷ 19 ∷ 20 ∷ 21 ∷ 22 ∷ 26 ∷ 30 ∷ []
+  pub not_fetched : log_cycles (behind_stop waits_on) ≡ 5 ∷ 9 ∷ 13 ∷ 17 ∷ 17 ∷ 18 ∷ 22 ∷ 26 ∷ 30 ∷ []
   pub fetches : issue_cycles (instructions (started sequential (code_page ∷ placed_page 24 5 (Present 7 false false) ∷ []) 0) 1000 far_jumper.state) ≡ 17 ∷ 35 ∷ 53 ∷ []
   pub data_serves : serve_cycles (instructions (started sequential far_pages 0) 1000 far_loader.state) ≡ (35 ∷ []) ∷ (59 ∷ []) ∷ (83 ∷ []) ∷ [] ∷ []
   pub data_ends : figures (episode (started sequential far_pages 0) 1000 far_loader) ≡ 89 ∷ 109 ∷ 3 ∷ 3 ∷ []

@@ -44,7 +44,7 @@ in_flight = record { serves = refl; cut = refl; goes_ahead = refl; stops = refl;
 
 waits : WaitsHold
 unfolding operations upcoming performed page_map after_walk walk table_walk entry_in merged after_elements longest_run some_below footprint run_on fetched_on episode
-waits = record { fetches = refl; data_serves = refl; data_ends = refl; gather_starts = refl; gather_serves = refl; gather_ends = refl }
+waits = record { stops = refl; fetched = refl; not_fetched = refl; fetches = refl; data_serves = refl; data_ends = refl; gather_starts = refl; gather_serves = refl; gather_ends = refl }
 
 pub returns : goal.returns
 returns c = record { hi = hi; calculates = calculates; loads = loads; stores = stores; across = across; trims = trims; in_flight = in_flight; waits = waits }
