@@ -16,9 +16,9 @@ use Rattle.vx_episode.specs.Cycles.{Cycle, behind, latest}
 use Rattle.vx_episode.specs.Cycles.Cycle.{At, Never}
 use Rattle.vx_episode.specs.Footprint.{Access, Batch, Footprint}
 use Rattle.vx_episode.specs.History.{History, Walk, BatchTimes, AccessTimes, Failure, last_retire, word_ready, batches_of, last_passed, commit_before_last, accesses_of, bank_of, last_serve, batch_done, walks_of_batches, fetch_walks, fills_of, after_walks}
-use Rattle.vx_episode.specs.Instructions.{Start, walk_time}
+use Rattle.vx_episode.specs.Instructions.{walk_time}
 use Rattle.vx_episode.specs.Ordered.{ordered}
-use Rattle.vx_episode.specs.Organisation.{Organisation, data_entries}
+use Rattle.vx_episode.specs.Organisation.{Organisation, Start, data_entries}
 
 -- ---- look-ups and walks
 
@@ -145,12 +145,21 @@ judged fate lower (a ∷ accesses) = judged fate (record { access = a; fate = fa
 -- ---- serves
 
 -- an access that was queued, before it is served
-abbrev pub queued_as : Judged → Fate → Cycle → List AccessTimes
-queued_as j (Good known word) (At cycle) = record { access = j.access; word = word; queued = cycle; served = 0; done = 0 } ∷ []
-queued_as j fate cycle = []
+pub record Waiting : Type 0 where
+  pub access : Access
+  pub word : ℕ
+  pub queued : ℕ
 
-abbrev pub queued_of : Judged → List AccessTimes
-queued_of j = queued_as j j.fate j.queued
+abbrev pub waiting_as : Access → Fate → Cycle → List Waiting
+waiting_as a (Good known word) (At cycle) = record { access = a; word = word; queued = cycle } ∷ []
+waiting_as a fate cycle = []
+
+abbrev pub waiting_of : Judged → List Waiting
+waiting_of j = waiting_as j.access j.fate j.queued
+
+-- the accesses of a batch that are queued, in the order of their queue cycles, and of their numbers where these are equal
+abbrev pub queue_of : List Judged → List Waiting
+queue_of judged = ordered (λ (w : Waiting). w.queued) (flat_map waiting_of (reverse judged))
 
 -- behind the queue, and the bank time behind the serve before on the bank
 abbrev pub serve_cycle : Organisation → (earlier : List AccessTimes) → (word queued : ℕ) → ℕ
@@ -161,14 +170,15 @@ serve_cycle machine earlier word queued =
 abbrev pub done_cycle : Organisation → (served : ℕ) → ℕ
 done_cycle machine served = served + machine.bank_time
 
-abbrev pub served_at : Organisation → (served : ℕ) → AccessTimes → AccessTimes
-served_at machine served a = record a { served = served; done = done_cycle machine served }
+abbrev pub served_at : Organisation → (served : ℕ) → Waiting → AccessTimes
+served_at machine served w =
+    record { access = w.access; word = w.word; queued = w.queued; served = served; done = done_cycle machine served }
 
 -- the accesses of a queue in turn, behind those that were served before; the last first
-abbrev pub served_in_turn : Organisation → (earlier now : List AccessTimes) → (queue : List AccessTimes) → List AccessTimes
+abbrev pub served_in_turn : Organisation → (earlier now : List AccessTimes) → (queue : List Waiting) → List AccessTimes
 served_in_turn machine earlier now [] = now
-served_in_turn machine earlier now (a ∷ queue) =
-    served_in_turn machine earlier (served_at machine (serve_cycle machine (now ++ earlier) a.word a.queued) a ∷ now) queue
+served_in_turn machine earlier now (w ∷ queue) =
+    served_in_turn machine earlier (served_at machine (serve_cycle machine (now ++ earlier) w.word w.queued) w ∷ now) queue
 
 -- ---- a batch
 
@@ -176,13 +186,13 @@ abbrev pub is_queued : Cycle → Bool
 is_queued (At cycle) = true
 is_queued Never = false
 
-abbrev pub element_fails_away : Fate → Bool
-element_fails_away (Good cycle word) = false
-element_fails_away (Fails cycle is_away) = is_away
-element_fails_away Unknown = false
+abbrev pub fails_away : Fate → Bool
+fails_away (Good cycle word) = false
+fails_away (Fails cycle is_away) = is_away
+fails_away Unknown = false
 
 abbrev pub failure_of : Judged → Failure
-failure_of j = record { element = j.access.element; address = j.access.address; is_away = element_fails_away j.fate }
+failure_of j = record { element = j.access.element; address = j.access.address; is_away = fails_away j.fate }
 
 -- the lowest access that fails
 abbrev pub lowest_failure : List Judged → Option Failure
@@ -245,7 +255,7 @@ module _ (start : Start) (history : History) where
         looked_up = At (walks_end started walks);
         committed = Never;
         walks = walks;
-        accesses = served_in_turn start.machine (accesses_of before) [] (ordered (λ (a : AccessTimes). a.queued) (flat_map queued_of (reverse js)));
+        accesses = served_in_turn start.machine (accesses_of before) [] (queue_of js);
         missing = never_queued is_trimmed js;
         failure = failure;
         is_trimmed = is_trimmed;

@@ -7,7 +7,8 @@ use Rattle.vx_episode.specs.Cycles.{Cycle, behind, latest, cycles_of}
 use Rattle.vx_episode.specs.Cycles.Cycle.{At}
 use Rattle.vx_episode.specs.Footprint.{Footprint, footprint, ended_by}
 use Rattle.vx_episode.specs.History.{History, Entry, FetchTimes, BeatTimes, BatchTimes, AccessTimes, Failure, last_retire, stops, accesses_of, missing_of}
-use Rattle.vx_episode.specs.Instructions.{Start, fetch_begin, fetch_times, issue_cycle, beat_times, words_made, words_loaded, generation_cycle, complete_cycle, retire_cycle}
+use Rattle.vx_episode.specs.Organisation.{Start}
+use Rattle.vx_episode.specs.Instructions.{fetch_begin, fetch_times, issue_cycle, beat_times, words_made, words_loaded, generation_cycle, complete_cycle, retire_cycle}
 use Rattle.vx_episode.specs.declared.ended.Ended.{Ended}
 use Rattle.vx_episode.specs.declared.ended.Ended.TheVariants.{Away}
 

@@ -12,7 +12,8 @@ use Rattle.vx_episode.specs.Commits.{What, Happening, entry_of, happenings_of, h
 use Rattle.vx_episode.specs.Commits.What.{Completes, Reaches, Stops}
 use Rattle.vx_episode.specs.Cycles.{is_by}
 use Rattle.vx_episode.specs.History.{History, Walk, AccessTimes, last_retire, accesses_of, batches_of, fetch_walks, data_walks, after_walks}
-use Rattle.vx_episode.specs.Instructions.{Start, fetch_begin}
+use Rattle.vx_episode.specs.Organisation.{Start}
+use Rattle.vx_episode.specs.Instructions.{fetch_begin}
 use Rattle.vx_episode.specs.Log.{log_up_to}
 use Rattle.vx_episode.specs.declared.ended.Ended.{Ended}
 use Rattle.vx_episode.specs.declared.ended.Ended.TheVariants.{Slice, Faulted}

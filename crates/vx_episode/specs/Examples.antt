@@ -15,8 +15,7 @@ use Rattle.vx_vstate.specs.State.{VectorState}
 use Rattle.vx_episode.specs.Cycles.{cycles_of}
 use Rattle.vx_episode.specs.Episode.{EpisodeEnd, episode, instructions}
 use Rattle.vx_episode.specs.History.{History, Entry, BeatTimes, BatchTimes, AccessTimes}
-use Rattle.vx_episode.specs.Instructions.{Start}
-use Rattle.vx_episode.specs.Organisation.{Organisation}
+use Rattle.vx_episode.specs.Organisation.{Organisation, Start}
 use Rattle.vx_episode.specs.Show.{is_pending}
 use Rattle.vx_episode.specs.declared.ended.Ended.{Ended}
 use Rattle.vx_episode.specs.declared.ended.Ended.TheVariants as ended

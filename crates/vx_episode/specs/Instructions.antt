@@ -13,19 +13,10 @@ use Rattle.vx_episode.specs.Cycles.{Cycle, later, behind, latest}
 use Rattle.vx_episode.specs.Cycles.Cycle.{At, Never}
 use Rattle.vx_episode.specs.Footprint.{Access, Footprint, Group}
 use Rattle.vx_episode.specs.History.{History, Walk, FetchTimes, BeatTimes, BatchTimes, AccessTimes, Ready, last_issue, last_retire, retire_before, trimming_before, register_ready, word_ready, latency_of, beats_of, free_unit, done_cycles, batch_done, passed, fetch_walks, data_walks, fills_of, after_walks}
-use Rattle.vx_episode.specs.Organisation.{Organisation, fetch_entries}
+use Rattle.vx_episode.specs.Organisation.{Organisation, Start, fetch_entries}
 use Rattle.vx_episode.specs.declared.ended.Ended.{Ended}
 
--- what an episode begins with: the machine, the cycle, the residency of the process's pages and the frame of the root of their
--- tables, and whether the process has got the vectors
-pub record Start : Type 0 where
-  pub machine : Organisation
-  pub cycle : ℕ
-  pub residency : Residency
-  pub root : ℕ
-  pub has_vectors : Bool
-
--- the cycles from the begin of a walk to its end: one for each bank time that a level takes, and one for its write
+-- the cycles of a walk: a bank time for each of the three levels, and one for the leaf's write
 abbrev pub walk_time : Organisation → ℕ
 walk_time machine = 4 * machine.bank_time
 

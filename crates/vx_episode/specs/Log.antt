@@ -18,7 +18,7 @@ use Rattle.vx_episode.specs.Batches.{word_in}
 use Rattle.vx_episode.specs.Cycles.{cycles_of}
 use Rattle.vx_episode.specs.Footprint.{Access}
 use Rattle.vx_episode.specs.History.{History, Entry, Walk, AccessTimes, fetch_walks, data_walks, accesses_of, after_walks}
-use Rattle.vx_episode.specs.Instructions.{Start}
+use Rattle.vx_episode.specs.Organisation.{Start}
 use Rattle.vx_episode.specs.Ordered.{ordered}
 
 -- the aligned word of 8 bytes around an address

@@ -6,7 +6,7 @@ use Rattle.vx_tables.specs.Residency.{Residency, PlacedPage, pages_of, placed}
 use Rattle.vx_tables.specs.Residency.Place.{Present}
 use Rattle.vx_tables.specs.Tables.{table_count}
 use Rattle.vx_episode.specs.Episode.{EpisodeEnd, episode}
-use Rattle.vx_episode.specs.Instructions.{Start}
+use Rattle.vx_episode.specs.Organisation.{Start}
 use Rattle.vx_episode.specs.Show.{Registers, Shows}
 use Rattle.vx_episode.specs.declared.ended.Ended.{Ended}
 
