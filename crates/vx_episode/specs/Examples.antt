@@ -1,12 +1,12 @@
 -- Small programs and when what they do comes, on which the definitions are computed. This project's own; the cycles were worked out
 -- by hand from the equations, as docs/TIMES.md shows.
-use Rattle.std.specs.Prelude.{◌≡◌, ℕ, ◌^◌, ◌-◌, true, false, List, [], ◌∷◌, ◌++◌, map, flat_map, replicate, reverse, Option, Some, None, option_map}
+use Rattle.std.specs.Prelude.{◌≡◌, ℕ, ◌^◌, ◌-◌, Bool, true, false, List, [], ◌∷◌, ◌++◌, map, flat_map, replicate, reverse, Option, Some, None, option_map}
 use Rattle.std.specs.Option.{option_map_or}
 use Rattle.vx_base.specs.Numbers.{little_endian}
 use Rattle.vx_cells.specs.declared.access.Access as cells
 use Rattle.vx_cells.specs.declared.access.Port.{Port}
 use Rattle.vx_cells.specs.declared.access.Port.TheVariants as port
-use Rattle.vx_base.specs.declared.machine.Want.TheVariants.{Store}
+use Rattle.vx_base.specs.declared.machine.Want.TheVariants.{Fetch, Store}
 use Rattle.vx_flat.specs.Process.{Process}
 use Rattle.vx_image.specs.Pages.{MappedPage, Memory}
 use Rattle.vx_tables.specs.Residency.{Residency, PlacedPage, Place}
@@ -166,6 +166,13 @@ goes_on = 0x00053583 ∷ replicate 5 0x00060613
 
 abbrev pub waits_on : List ℕ
 waits_on = 0x00053583 ∷ 0x00b58633 ∷ replicate 4 0x00060613
+
+-- csrrs t0, vlenb, zero; ecall. And vsetvli t0, a1, e64, m4; ecall
+abbrev pub reads_vlenb : List ℕ
+reads_vlenb = 0xc22022f3 ∷ 0x00000073 ∷ []
+
+abbrev pub configures : List ℕ
+configures = 0x01a5f2d7 ∷ 0x00000073 ∷ []
 
 -- ---- what they come to
 
@@ -334,6 +341,29 @@ pub record WaitsHold : Type 0 where
   pub gather_serves : serve_cycles (instructions gathering 1000 gatherer.state) ≡ [] ∷ (37 ∷ 41 ∷ 45 ∷ 49 ∷ 53 ∷ 57 ∷ 61 ∷ 65 ∷ []) ∷ [] ∷ []
   pub gather_ends : figures (episode gathering 1000 gatherer) ≡ 71 ∷ 91 ∷ 2 ∷ 3 ∷ []
 
+-- a page of code that is away stops at the end of its walk; vectors that the process hasn't got, at the issue
+abbrev pub changed_in : Option EpisodeEnd → Option Bool
+changed_in e = option_map (λ (e : EpisodeEnd). e.changed_vectors) e
+
+abbrev pub code_away : Start
+code_away = started sequential (placed_page 16 5 Away ∷ []) 100
+
+abbrev pub lacking : Start
+lacking = record (started sequential (code_page ∷ []) 0) { has_vectors = false }
+
+abbrev pub having : Start
+having = started sequential (code_page ∷ []) 0
+
+pub record StopsHold : Type 0 where
+  pub code : figures (episode code_away 1000 (process no_vectors 0 0 0 [] writes_hi)) ≡ 117 ∷ 137 ∷ 0 ∷ 0 ∷ []
+  pub code_is : ended_of (episode code_away 1000 (process no_vectors 0 0 0 [] writes_hi)) ≡ Some (ended.Away 0x10000 Fetch)
+  pub lacks : figures (episode lacking 1000 (process no_vectors 0 0 0 [] configures)) ≡ 17 ∷ 37 ∷ 0 ∷ 0 ∷ []
+  pub lacks_vectors : ended_of (episode lacking 1000 (process no_vectors 0 0 0 [] configures)) ≡ Some ended.Vector
+  -- reading vlenb leaves the vector state as it was; a configuration changes it
+  pub reads : figures (episode having 1000 (process no_vectors 0 0 0 [] reads_vlenb)) ≡ 20 ∷ 40 ∷ 1 ∷ 1 ∷ []
+  pub reads_alone : changed_in (episode having 1000 (process no_vectors 0 0 0 [] reads_vlenb)) ≡ Some false
+  pub changes : changed_in (episode having 1000 (process no_vectors 0 64 0 [] configures)) ≡ Some true
+
 pub record ExamplesHold : Type 0 where
   pub hi : HiHolds
   pub calculates : CalculatesHolds
@@ -343,3 +373,4 @@ pub record ExamplesHold : Type 0 where
   pub trims : TrimsHold
   pub in_flight : InFlightHold
   pub waits : WaitsHold
+  pub stops : StopsHold

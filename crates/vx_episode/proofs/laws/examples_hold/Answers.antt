@@ -10,7 +10,7 @@ use Rattle.vx_vector.specs.Batches.{longest_run}
 use Rattle.vx_packed.specs.Joined.{some_below}
 use Rattle.vx_episode.specs.Footprint.{footprint}
 use Rattle.vx_episode.specs.Episode.{run_on, fetched_on, episode}
-use Rattle.vx_episode.specs.Examples.{HiHolds, CalculatesHolds, LoadsHold, StoresHold, AcrossHolds, TrimsHold, InFlightHold, WaitsHold}
+use Rattle.vx_episode.specs.Examples.{HiHolds, CalculatesHolds, LoadsHold, StoresHold, AcrossHolds, TrimsHold, InFlightHold, WaitsHold, StopsHold}
 use Rattle.vx_episode.specs.Show.{is_pending}
 use Rattle.vx_episode.proofs.laws.examples_hold.Goals as goal
 
@@ -46,5 +46,9 @@ waits : WaitsHold
 unfolding operations upcoming performed page_map after_walk walk table_walk entry_in merged after_elements longest_run some_below footprint run_on fetched_on episode
 waits = record { stops = refl; fetched = refl; not_fetched = refl; fetches = refl; data_serves = refl; data_ends = refl; gather_starts = refl; gather_serves = refl; gather_ends = refl }
 
+stops : StopsHold
+unfolding operations upcoming performed page_map after_walk walk table_walk entry_in merged after_elements longest_run some_below footprint run_on fetched_on episode
+stops = record { code = refl; code_is = refl; lacks = refl; lacks_vectors = refl; reads = refl; reads_alone = refl; changes = refl }
+
 pub returns : goal.returns
-returns c = record { hi = hi; calculates = calculates; loads = loads; stores = stores; across = across; trims = trims; in_flight = in_flight; waits = waits }
+returns c = record { hi = hi; calculates = calculates; loads = loads; stores = stores; across = across; trims = trims; in_flight = in_flight; waits = waits; stops = stops }
