@@ -1,0 +1,54 @@
+use Rattle.std.proofs.Common.{refl}
+use Rattle.vx_rows.specs.Table.{operations}
+use Rattle.vx_flat.specs.Step.{upcoming, performed}
+use Rattle.vx_tables.specs.Residency.{page_map, after_walk}
+use Rattle.vx_tables.specs.Walks.{walk, table_walk}
+use Rattle.vx_tables.specs.Tables.{entry_in}
+use Rattle.vx_cells.specs.Merging.{merged}
+use Rattle.vx_vector.specs.Arithmetic.{after_elements}
+use Rattle.vx_vector.specs.Batches.{longest_run}
+use Rattle.vx_packed.specs.Joined.{some_below}
+use Rattle.vx_episode.specs.Footprint.{footprint}
+use Rattle.vx_episode.specs.Episode.{run_on, fetched_on, episode}
+use Rattle.vx_episode.specs.Examples.{HiHolds, CalculatesHolds, LoadsHold, StoresHold, AcrossHolds, TrimsHold, InFlightHold, WaitsHold, StopsHold}
+use Rattle.vx_episode.specs.Show.{is_pending}
+use Rattle.vx_episode.proofs.laws.examples_hold.Goals as goal
+
+hi : HiHolds
+unfolding operations upcoming performed page_map after_walk walk table_walk entry_in merged after_elements longest_run some_below footprint run_on fetched_on episode
+hi = record { writes = refl; leaves = refl; issues = refl }
+
+calculates : CalculatesHolds
+unfolding operations upcoming performed page_map after_walk walk table_walk entry_in merged after_elements longest_run some_below footprint run_on fetched_on episode
+calculates = record { beats = refl; issues = refl; retires = refl; ends = refl; cut = refl }
+
+loads : LoadsHold
+unfolding operations upcoming performed page_map after_walk walk table_walk entry_in merged after_elements longest_run some_below footprint run_on fetched_on episode
+loads = record { starts = refl; serves = refl; retires = refl; ends = refl; cut = refl; cut_within = refl; cut_behind = refl }
+
+stores : StoresHold
+unfolding operations upcoming performed page_map after_walk walk table_walk entry_in merged after_elements longest_run some_below footprint run_on fetched_on episode
+stores = record { starts = refl; serves = refl; ends = refl; residency = refl; log = refl }
+
+across : AcrossHolds
+unfolding operations upcoming performed page_map after_walk walk table_walk entry_in merged after_elements longest_run some_below footprint run_on fetched_on episode
+across = record { away = refl; away_at = refl; serves = refl; vstart = refl; restarted = refl; restarts_serves = refl; faults = refl; faults_with = refl }
+
+trims : TrimsHold
+unfolding operations upcoming performed page_map after_walk walk table_walk entry_in merged after_elements longest_run some_below footprint run_on fetched_on episode
+trims = record { issues = refl; serves = refl; beats = refl; ends = refl; length = refl }
+
+in_flight : InFlightHold
+unfolding operations upcoming performed page_map after_walk walk table_walk entry_in merged after_elements longest_run some_below footprint run_on fetched_on episode is_pending
+in_flight = record { serves = refl; cut = refl; goes_ahead = refl; stops = refl; stops_at = refl; pending = refl }
+
+waits : WaitsHold
+unfolding operations upcoming performed page_map after_walk walk table_walk entry_in merged after_elements longest_run some_below footprint run_on fetched_on episode
+waits = record { stops = refl; fetched = refl; not_fetched = refl; fetches = refl; data_serves = refl; data_ends = refl; gather_starts = refl; gather_serves = refl; gather_ends = refl }
+
+stops : StopsHold
+unfolding operations upcoming performed page_map after_walk walk table_walk entry_in merged after_elements longest_run some_below footprint run_on fetched_on episode
+stops = record { code = refl; code_is = refl; lacks = refl; lacks_vectors = refl; reads = refl; reads_alone = refl; changes = refl }
+
+pub returns : goal.returns
+returns c = record { hi = hi; calculates = calculates; loads = loads; stores = stores; across = across; trims = trims; in_flight = in_flight; waits = waits; stops = stops }

@@ -1,0 +1,376 @@
+-- Small programs and when what they do comes, on which the definitions are computed. This project's own; the cycles were worked out
+-- by hand from the equations, as docs/TIMES.md shows.
+use Rattle.std.specs.Prelude.{◌≡◌, ℕ, ◌^◌, ◌-◌, Bool, true, false, List, [], ◌∷◌, ◌++◌, map, flat_map, replicate, reverse, Option, Some, None, option_map}
+use Rattle.std.specs.Option.{option_map_or}
+use Rattle.vx_base.specs.Numbers.{little_endian}
+use Rattle.vx_cells.specs.declared.access.Access as cells
+use Rattle.vx_cells.specs.declared.access.Port.{Port}
+use Rattle.vx_cells.specs.declared.access.Port.TheVariants as port
+use Rattle.vx_base.specs.declared.machine.Want.TheVariants.{Fetch, Store}
+use Rattle.vx_flat.specs.Process.{Process}
+use Rattle.vx_image.specs.Pages.{MappedPage, Memory}
+use Rattle.vx_tables.specs.Residency.{Residency, PlacedPage, Place}
+use Rattle.vx_tables.specs.Residency.Place.{Away, Present}
+use Rattle.vx_vstate.specs.State.{VectorState}
+use Rattle.vx_episode.specs.Cycles.{cycles_of}
+use Rattle.vx_episode.specs.Episode.{EpisodeEnd, episode, instructions}
+use Rattle.vx_episode.specs.History.{History, Entry, BeatTimes, BatchTimes, AccessTimes}
+use Rattle.vx_episode.specs.Organisation.{Organisation, Start}
+use Rattle.vx_episode.specs.Show.{is_pending}
+use Rattle.vx_episode.specs.declared.ended.Ended.{Ended}
+use Rattle.vx_episode.specs.declared.ended.Ended.TheVariants as ended
+
+-- ---- machines, pages and states
+
+-- one instruction in flight and batches of one element, on one lane and eight banks with a bank time of 4
+abbrev pub sequential : Organisation
+sequential = record { lanes = 1; banks = 8; bank_time = 4; window = 1; batch_limit = 1 }
+
+-- so many instructions in flight, and batches as long as they may be
+abbrev pub overlapped : (lanes banks window : ℕ) → Organisation
+overlapped lanes banks window = record { lanes = lanes; banks = banks; bank_time = 4; window = window; batch_limit = 2048 }
+
+-- page 16 may be read and executed, and pages 17 and 18 may be read and written
+abbrev pub placed_page : (number bits : ℕ) → Place → PlacedPage
+placed_page number bits place = record { entry = record { page = number; perm = record { bits = bits } }; place = place }
+
+abbrev pub code_page : PlacedPage
+code_page = placed_page 16 5 (Present 5 false false)
+
+abbrev pub data_page : PlacedPage
+data_page = placed_page 17 6 (Present 6 false false)
+
+-- the bytes of a program: words of four bytes
+abbrev pub program : List ℕ → MappedPage
+program words = record { number = 16; permissions = 5; bytes = flat_map (little_endian 4) words }
+
+-- a page of 0, of whose bytes the first 128 are there
+abbrev pub zero_page : (number : ℕ) → MappedPage
+zero_page number = record { number = number; permissions = 6; bytes = replicate 128 0 }
+
+abbrev pub no_vectors : VectorState
+no_vectors = record { vlen = 128; words = []; vl = 0; vtype = 2 ^ 63; vstart = 0; vxsat = false; vxrm = 0 }
+
+-- e64 and m4 with vl 8, at registers of 128 bits
+abbrev pub eight_elements : (vstart : ℕ) → VectorState
+eight_elements vstart = record { vlen = 128; words = replicate 64 0; vl = 8; vtype = 0x1a; vstart = vstart; vxsat = false; vxrm = 0 }
+
+-- a process at the begin of a program on page 16, with other pages, x10, x11 and x12
+abbrev pub process : VectorState → (a0 a1 a2 : ℕ) → Memory → List ℕ → Process
+process v a0 a1 a2 memory words = record {
+  state = record {
+    pc = 0x10000;
+    x = replicate 10 0 ++ (a0 ∷ a1 ∷ a2 ∷ replicate 19 0);
+    v = v;
+    vectors_enabled = true;
+    memory = program words ∷ memory;
+    output = [];
+  };
+  count = 0;
+  over = None;
+}
+
+abbrev pub started : Organisation → Residency → (cycle : ℕ) → Start
+started machine residency cycle = record { machine = machine; cycle = cycle; residency = residency; root = 0; has_vectors = true }
+
+-- ---- what is looked at
+
+-- the last cycle of an episode, that at which the system takes over, how many instructions completed, and how often it committed
+abbrev pub figures : Option EpisodeEnd → List ℕ
+figures e = option_map_or (λ (e : EpisodeEnd). e.last ∷ e.clock ∷ e.completed ∷ e.commits ∷ []) e []
+
+abbrev pub ended_of : Option EpisodeEnd → Option Ended
+ended_of e = option_map (λ (e : EpisodeEnd). e.ended) e
+
+abbrev pub residency_of : Option EpisodeEnd → Option Residency
+residency_of e = option_map (λ (e : EpisodeEnd). e.residency) e
+
+abbrev pub log_of : Option EpisodeEnd → Option (List cells.Access)
+log_of e = option_map (λ (e : EpisodeEnd). e.log) e
+
+abbrev pub vector_state_of : Option EpisodeEnd → Option VectorState
+vector_state_of e = option_map (λ (e : EpisodeEnd). e.process.state.v) e
+
+-- of each instruction in turn: the cycles of its issue and its retire, where they come, those of its beats, and those at which its
+-- accesses are served
+abbrev pub issue_cycles : History → List ℕ
+issue_cycles history = flat_map (λ (e : Entry). cycles_of e.issued) (reverse history)
+
+abbrev pub retire_cycles : History → List ℕ
+retire_cycles history = flat_map (λ (e : Entry). cycles_of e.retired) (reverse history)
+
+abbrev pub beat_cycles : History → List (List ℕ)
+beat_cycles history = map (λ (e : Entry). flat_map (λ (b : BeatTimes). cycles_of b.cycle) (reverse e.beats)) (reverse history)
+
+abbrev pub start_cycles : History → List (List ℕ)
+start_cycles history = map (λ (e : Entry). flat_map (λ (b : BatchTimes). cycles_of b.started) (reverse e.batches)) (reverse history)
+
+abbrev pub serve_cycles : History → List (List ℕ)
+serve_cycles history = map (λ (e : Entry). flat_map (λ (b : BatchTimes). map (λ (a : AccessTimes). a.served) (reverse b.accesses)) (reverse e.batches)) (reverse history)
+
+-- ---- the programs
+
+-- it writes "hi" and a newline, and exits: here from its first instruction on, and from that behind the service
+abbrev pub writes_hi : List ℕ
+writes_hi = 0x00100513 ∷ 0x000105b7 ∷ 0x02458593 ∷ 0x00300613 ∷ 0x04000893 ∷ 0x00000073 ∷ []
+
+abbrev pub exits : List ℕ
+exits = 0x00000513 ∷ 0x05d00893 ∷ 0x00000073 ∷ []
+
+-- vmul.vv v8, v16, v24; vadd.vv v12, v8, v24; vredsum.vs v4, v12, v16; vdivu.vv v20, v24, v16; ecall
+abbrev pub calculates : List ℕ
+calculates = 0x970c2457 ∷ 0x028c0657 ∷ 0x02c82257 ∷ 0x83882a57 ∷ 0x00000073 ∷ []
+
+-- vle64.v v8, (a0); vlse64.v v12, (a0), a1; vlse64.v v12, (a0), a2; vle32.v v16, (a0); ecall
+abbrev pub loads : List ℕ
+loads = 0x02057407 ∷ 0x0ab57607 ∷ 0x0ac57607 ∷ 0x02056807 ∷ 0x00000073 ∷ []
+
+-- ld a1, 0(a0); sd a1, 8(a0); sd a1, 0(a0); ecall
+abbrev pub stores : List ℕ
+stores = 0x00053583 ∷ 0x00b53423 ∷ 0x00b53023 ∷ 0x00000073 ∷ []
+
+-- vse64.v v8, (a0); ecall
+abbrev pub stores_eight : List ℕ
+stores_eight = 0x02057427 ∷ 0x00000073 ∷ []
+
+-- vle64ff.v v8, (a0); vadd.vv v12, v8, v8; ecall
+abbrev pub loads_first : List ℕ
+loads_first = 0x03057407 ∷ 0x02840657 ∷ 0x00000073 ∷ []
+
+-- ld a1, 0(a0); ld a2, 0(a0); ecall
+abbrev pub loads_twice : List ℕ
+loads_twice = 0x00053583 ∷ 0x00053603 ∷ 0x00000073 ∷ []
+
+-- sd a1, 0(a2); vsse64.v v8, (a0), a1; ecall
+abbrev pub stores_down : List ℕ
+stores_down = 0x00b63023 ∷ 0x0ab57427 ∷ 0x00000073 ∷ []
+
+-- jal zero, 0x8000; ecall; and, at that address, jal zero, -0x7ffc, which is back behind the first
+abbrev pub jumps : List ℕ
+jumps = 0x0000806f ∷ 0x00000073 ∷ []
+
+abbrev pub jumps_back : List ℕ
+jumps_back = 0x804f806f ∷ []
+
+-- ld a2, 0(a0); ld a3, 0(a1); ld a4, 0(a0); ecall
+abbrev pub loads_thrice : List ℕ
+loads_thrice = 0x00053603 ∷ 0x0005b683 ∷ 0x00053703 ∷ 0x00000073 ∷ []
+
+-- vadd.vv v12, v8, v8; vluxei64.v v16, (a0), v12; ecall
+abbrev pub gathers : List ℕ
+gathers = 0x02840657 ∷ 0x06c57807 ∷ 0x00000073 ∷ []
+
+-- ld a1, 0(a0); five times addi a2, a2, 0. And the same with add a2, a1, a1 behind the load
+abbrev pub goes_on : List ℕ
+goes_on = 0x00053583 ∷ replicate 5 0x00060613
+
+abbrev pub waits_on : List ℕ
+waits_on = 0x00053583 ∷ 0x00b58633 ∷ replicate 4 0x00060613
+
+-- csrrs t0, vlenb, zero; ecall. And vsetvli t0, a1, e64, m4; ecall
+abbrev pub reads_vlenb : List ℕ
+reads_vlenb = 0xc22022f3 ∷ 0x00000073 ∷ []
+
+abbrev pub configures : List ℕ
+configures = 0x01a5f2d7 ∷ 0x00000073 ∷ []
+
+-- ---- what they come to
+
+-- the program that writes, with one instruction in flight, first from cycle 100 on, and behind the service from cycle 203 on: 52 and
+-- 43 cycles, and with the 51 and 50 of the two services the 196 of the whole run
+pub record HiHolds : Type 0 where
+  pub writes : figures (episode (started sequential (code_page ∷ []) 100) 10100 (process no_vectors 0 0 0 [] writes_hi)) ≡ 132 ∷ 152 ∷ 5 ∷ 5 ∷ []
+  pub leaves : figures (episode (started sequential (code_page ∷ []) 203) 10100 (process no_vectors 0 0 0 [] exits)) ≡ 226 ∷ 246 ∷ 2 ∷ 2 ∷ []
+  pub issues : issue_cycles (instructions (started sequential (code_page ∷ []) 100) 10100 (process no_vectors 0 0 0 [] writes_hi).state) ≡ 117 ∷ 120 ∷ 123 ∷ 126 ∷ 129 ∷ 132 ∷ []
+
+-- units, chaining, a reduction, divisions on the unit of multiplications, with two lanes and a window of four
+pub record CalculatesHolds : Type 0 where
+  pub beats : beat_cycles (instructions (started (overlapped 2 8 4) (code_page ∷ []) 0) 1000 (process (eight_elements 0) 0 0 0 [] calculates).state)
+      ≡ (18 ∷ 19 ∷ 20 ∷ 21 ∷ []) ∷ (22 ∷ 23 ∷ 24 ∷ 25 ∷ []) ∷ (27 ∷ 28 ∷ 29 ∷ 30 ∷ []) ∷ (22 ∷ 30 ∷ 38 ∷ 46 ∷ []) ∷ [] ∷ []
+  pub issues : issue_cycles (instructions (started (overlapped 2 8 4) (code_page ∷ []) 0) 1000 (process (eight_elements 0) 0 0 0 [] calculates).state) ≡ 17 ∷ 18 ∷ 19 ∷ 20 ∷ 64 ∷ []
+  pub retires : retire_cycles (instructions (started (overlapped 2 8 4) (code_page ∷ []) 0) 1000 (process (eight_elements 0) 0 0 0 [] calculates).state) ≡ 26 ∷ 28 ∷ 35 ∷ 63 ∷ []
+  pub ends : figures (episode (started (overlapped 2 8 4) (code_page ∷ []) 0) 1000 (process (eight_elements 0) 0 0 0 [] calculates)) ≡ 64 ∷ 84 ∷ 4 ∷ 4 ∷ []
+  -- a slice that is over at 25 ends with the first retire, while three more instructions are in flight
+  pub cut : figures (episode (started (overlapped 2 8 4) (code_page ∷ []) 0) 25 (process (eight_elements 0) 0 0 0 [] calculates)) ≡ 26 ∷ 46 ∷ 1 ∷ 1 ∷ []
+
+-- loads of eight elements on four lanes and four banks: unit-stride, all on one bank, and two to a word
+abbrev pub loading : Start
+loading = started (overlapped 4 4 1) (code_page ∷ data_page ∷ []) 0
+
+abbrev pub loader : Process
+loader = process (eight_elements 0) 0x11000 32 8 (zero_page 17 ∷ []) loads
+
+pub record LoadsHold : Type 0 where
+  pub starts : start_cycles (instructions loading 1000 loader.state) ≡ (18 ∷ 35 ∷ []) ∷ (46 ∷ 47 ∷ []) ∷ (82 ∷ 83 ∷ []) ∷ (94 ∷ 95 ∷ []) ∷ [] ∷ []
+  pub serves : serve_cycles (instructions loading 1000 loader.state)
+      ≡ (35 ∷ 35 ∷ 35 ∷ 35 ∷ 39 ∷ 39 ∷ 39 ∷ 39 ∷ []) ∷ (47 ∷ 51 ∷ 55 ∷ 59 ∷ 63 ∷ 67 ∷ 71 ∷ 75 ∷ [])
+      ∷ (83 ∷ 83 ∷ 83 ∷ 83 ∷ 87 ∷ 87 ∷ 87 ∷ 87 ∷ []) ∷ (95 ∷ 99 ∷ 95 ∷ 99 ∷ 96 ∷ 100 ∷ 96 ∷ 100 ∷ []) ∷ [] ∷ []
+  pub retires : retire_cycles (instructions loading 1000 loader.state) ≡ 44 ∷ 80 ∷ 92 ∷ 105 ∷ []
+  pub ends : figures (episode loading 1000 loader) ≡ 106 ∷ 126 ∷ 4 ∷ 8 ∷ []
+  -- a slice that is over at 39 ends with the first batch, and vstart is 4 then; the accesses of the second, which are queued, are done
+  pub cut : figures (episode loading 39 loader) ≡ 39 ∷ 63 ∷ 0 ∷ 1 ∷ []
+  pub cut_within : vector_state_of (episode loading 39 loader) ≡ Some (eight_elements 4)
+  -- one that is over at 40 ends with the retire
+  pub cut_behind : figures (episode loading 40 loader) ≡ 44 ∷ 64 ∷ 1 ∷ 2 ∷ []
+
+-- a load fills the cache without D, so the store behind it walks again; the next one hits
+abbrev pub storing : Start
+storing = started sequential (code_page ∷ data_page ∷ []) 0
+
+abbrev pub storer : Process
+storer = process no_vectors 0x11000 0 0 (zero_page 17 ∷ []) stores
+
+abbrev pub read : (cycle : ℕ) → Port → (word value : ℕ) → cells.Access
+read cycle port word value = record { cycle = cycle; port = port; word = word; written = false; bytes = 255; value = value }
+
+abbrev pub written : (cycle : ℕ) → Port → (word value : ℕ) → cells.Access
+written cycle port word value = record { cycle = cycle; port = port; word = word; written = true; bytes = 255; value = value }
+
+pub record StoresHold : Type 0 where
+  pub starts : start_cycles (instructions storing 1000 storer.state) ≡ (18 ∷ []) ∷ (42 ∷ []) ∷ (66 ∷ []) ∷ [] ∷ []
+  pub serves : serve_cycles (instructions storing 1000 storer.state) ≡ (35 ∷ []) ∷ (59 ∷ []) ∷ (67 ∷ []) ∷ [] ∷ []
+  pub ends : figures (episode storing 1000 storer) ≡ 73 ∷ 93 ∷ 3 ∷ 3 ∷ []
+  pub residency : residency_of (episode storing 1000 storer) ≡ Some (placed_page 16 5 (Present 5 true false) ∷ placed_page 17 6 (Present 6 true true) ∷ [])
+  pub log : log_of (episode storing 1000 storer) ≡ Some (
+      read 5 port.FetchWalk 0 1025 ∷ read 9 port.FetchWalk 512 2049 ∷ read 13 port.FetchWalk 1040 5147 ∷ written 17 port.FetchWalk 1040 5211
+      ∷ read 17 port.Fetch 2560 0x00b5342300053583 ∷ read 18 port.Fetch 2560 0x00b5342300053583
+      ∷ read 22 port.Walk 0 1025 ∷ read 26 port.Walk 512 2049 ∷ read 30 port.Walk 1041 6167 ∷ written 34 port.Walk 1041 6231
+      ∷ read 35 port.Data 3072 0 ∷ read 42 port.Fetch 2561 0x0000007300b53023
+      ∷ read 46 port.Walk 0 1025 ∷ read 50 port.Walk 512 2049 ∷ read 54 port.Walk 1041 6231 ∷ written 58 port.Walk 1041 6359
+      ∷ written 59 port.Data 3073 0 ∷ read 66 port.Fetch 2561 0x0000007300b53023 ∷ written 67 port.Data 3072 0 ∷ [])
+
+-- a store of eight elements, of which three lie on page 17 and the others on page 18, on four lanes and two banks
+abbrev pub across : Place → Start
+across place = started (overlapped 4 2 1) (code_page ∷ data_page ∷ placed_page 18 6 place ∷ []) 0
+
+abbrev pub last_page : MappedPage
+last_page = record { number = 17; permissions = 6; bytes = replicate 4096 0 }
+
+abbrev pub crosser : (vstart : ℕ) → Process
+crosser vstart = process (eight_elements vstart) 0x11fe8 0 0 (last_page ∷ zero_page 18 ∷ []) stores_eight
+
+pub record AcrossHolds : Type 0 where
+  -- page 18 is away: it stops at element 3, with page 17 walked and those below done
+  pub away : figures (episode (across Away) 1000 (crosser 0)) ≡ 50 ∷ 70 ∷ 0 ∷ 1 ∷ []
+  pub away_at : ended_of (episode (across Away) 1000 (crosser 0)) ≡ Some (ended.Away 0x12000 Store)
+  pub serves : serve_cycles (instructions (across Away) 1000 (crosser 0).state) ≡ (35 ∷ 35 ∷ 39 ∷ []) ∷ []
+  pub vstart : vector_state_of (episode (across Away) 1000 (crosser 0)) ≡ Some (eight_elements 3)
+  -- it goes on there once the page has come
+  pub restarted : figures (episode (record (across (Present 7 false false)) { cycle = 1000 }) 2000 (crosser 3)) ≡ 1049 ∷ 1069 ∷ 1 ∷ 2 ∷ []
+  pub restarts_serves : serve_cycles (instructions (record (across (Present 7 false false)) { cycle = 1000 }) 2000 (crosser 3).state) ≡ (1035 ∷ 1035 ∷ 1039 ∷ 1039 ∷ 1043 ∷ []) ∷ [] ∷ []
+  -- page 18 isn't mapped: it faults there, at the same cycle
+  pub faults : figures (episode (started (overlapped 4 2 1) (code_page ∷ data_page ∷ []) 0) 1000 (process (eight_elements 0) 0x11fe8 0 0 (last_page ∷ []) stores_eight)) ≡ 50 ∷ 70 ∷ 0 ∷ 1 ∷ []
+  pub faults_with : ended_of (episode (started (overlapped 4 2 1) (code_page ∷ data_page ∷ []) 0) 1000 (process (eight_elements 0) 0x11fe8 0 0 (last_page ∷ []) stores_eight))
+      ≡ Some (ended.Faulted (record { cause = 15; tval = 0x12000; vstart = 3 }))
+
+-- a fault-only-first load whose element 5 lies on a page that isn't mapped, on four lanes and four banks with a window of four: vl is
+-- 5, and the instruction behind it is issued once that is known
+abbrev pub trimming : Start
+trimming = started (overlapped 4 4 4) (code_page ∷ data_page ∷ []) 0
+
+abbrev pub trimmer : Process
+trimmer = process (eight_elements 0) 0x11fd8 0 0 (last_page ∷ []) loads_first
+
+pub record TrimsHold : Type 0 where
+  pub issues : issue_cycles (instructions trimming 1000 trimmer.state) ≡ 17 ∷ 52 ∷ 58 ∷ []
+  pub serves : serve_cycles (instructions trimming 1000 trimmer.state) ≡ (35 ∷ 35 ∷ 35 ∷ 35 ∷ 39 ∷ []) ∷ [] ∷ [] ∷ []
+  pub beats : beat_cycles (instructions trimming 1000 trimmer.state) ≡ [] ∷ (53 ∷ 54 ∷ []) ∷ [] ∷ []
+  pub ends : figures (episode trimming 1000 trimmer) ≡ 58 ∷ 78 ∷ 2 ∷ 3 ∷ []
+  pub length : vector_state_of (episode trimming 1000 trimmer) ≡ Some (record (eight_elements 0) { vl = 5 })
+
+-- two loads of one word with a window of four: a slice that is over at 30 ends with the retire of the first, while the access of the
+-- second is queued; the system takes over once that is done
+abbrev pub twice : Start
+twice = started (overlapped 4 8 4) (code_page ∷ data_page ∷ []) 0
+
+abbrev pub twice_loader : Process
+twice_loader = process no_vectors 0x11000 0 0 (zero_page 17 ∷ []) loads_twice
+
+-- a store whose element 0 lies on page 18, which is away, and whose element 1 on page 17, which hits: that is stored before the other
+-- is known to fail, and the episode ends with nothing of the instruction committed. The byte at 0x11000 is pending then
+abbrev pub down : Start
+down = started (overlapped 2 2 1) (code_page ∷ data_page ∷ placed_page 18 6 Away ∷ []) 0
+
+abbrev pub two_elements : VectorState
+two_elements = record (eight_elements 0) { vl = 2 }
+
+abbrev pub down_storer : Process
+down_storer = process two_elements 0x12000 (2 ^ 64 - 4096) 0x11000 (zero_page 17 ∷ zero_page 18 ∷ []) stores_down
+
+pub record InFlightHold : Type 0 where
+  pub serves : serve_cycles (instructions twice 1000 twice_loader.state) ≡ (35 ∷ []) ∷ (39 ∷ []) ∷ [] ∷ []
+  pub cut : figures (episode twice 30 twice_loader) ≡ 40 ∷ 63 ∷ 1 ∷ 1 ∷ []
+  pub goes_ahead : serve_cycles (instructions down 1000 down_storer.state) ≡ (35 ∷ []) ∷ (43 ∷ []) ∷ []
+  pub stops : figures (episode down 1000 down_storer) ≡ 58 ∷ 78 ∷ 1 ∷ 1 ∷ []
+  pub stops_at : ended_of (episode down 1000 down_storer) ≡ Some (ended.Away 0x12000 Store)
+  pub pending : map (is_pending (record down_storer.state { pc = 0x10004 })) (0x11000 ∷ 0x11007 ∷ 0x11008 ∷ 0x12000 ∷ []) ≡ true ∷ true ∷ false ∷ true ∷ []
+
+-- pages 16 and 24 have one place in the cache of fetches, and pages 17 and 49 in that of data: each puts the other out
+abbrev pub far_jumper : Process
+far_jumper = process no_vectors 0 0 0 (record { number = 24; permissions = 5; bytes = flat_map (little_endian 4) jumps_back } ∷ []) jumps
+
+abbrev pub far_loader : Process
+far_loader = process no_vectors 0x11000 0x31000 0 (zero_page 17 ∷ zero_page 49 ∷ []) loads_thrice
+
+abbrev pub far_pages : Residency
+far_pages = code_page ∷ data_page ∷ placed_page 49 6 (Present 7 false false) ∷ []
+
+-- a gather whose first batch waits for the indices of its elements, with four lanes and a window of four
+abbrev pub gatherer : Process
+gatherer = process (eight_elements 0) 0x11000 0 0 (zero_page 17 ∷ []) gathers
+
+abbrev pub gathering : Start
+gathering = started (overlapped 4 8 4) (code_page ∷ data_page ∷ []) 0
+
+-- a load whose page is away stops, with a window of four: three instructions behind it are issued, and the fourth is fetched, but
+-- waits for the load's retire, which never comes; where the first needs what is loaded, it isn't issued, and no other is fetched
+abbrev pub behind_stop : List ℕ → Option EpisodeEnd
+behind_stop words = episode (started (overlapped 4 8 4) (code_page ∷ placed_page 18 6 Away ∷ []) 0) 1000 (process no_vectors 0x12000 0 0 (zero_page 18 ∷ []) words)
+
+abbrev pub log_cycles : Option EpisodeEnd → List ℕ
+log_cycles e = option_map_or (λ (e : EpisodeEnd). map (λ (a : cells.Access). a.cycle) e.log) e []
+
+pub record WaitsHold : Type 0 where
+  pub stops : figures (behind_stop goes_on) ≡ 34 ∷ 54 ∷ 0 ∷ 0 ∷ []
+  pub fetched : log_cycles (behind_stop goes_on) ≡ 5 ∷ 9 ∷ 13 ∷ 17 ∷ 17 ∷ 18 ∷ 19 ∷ 20 ∷ 21 ∷ 22 ∷ 26 ∷ 30 ∷ []
+  pub not_fetched : log_cycles (behind_stop waits_on) ≡ 5 ∷ 9 ∷ 13 ∷ 17 ∷ 17 ∷ 18 ∷ 22 ∷ 26 ∷ 30 ∷ []
+  pub fetches : issue_cycles (instructions (started sequential (code_page ∷ placed_page 24 5 (Present 7 false false) ∷ []) 0) 1000 far_jumper.state) ≡ 17 ∷ 35 ∷ 53 ∷ []
+  pub data_serves : serve_cycles (instructions (started sequential far_pages 0) 1000 far_loader.state) ≡ (35 ∷ []) ∷ (59 ∷ []) ∷ (83 ∷ []) ∷ [] ∷ []
+  pub data_ends : figures (episode (started sequential far_pages 0) 1000 far_loader) ≡ 89 ∷ 109 ∷ 3 ∷ 3 ∷ []
+  pub gather_starts : start_cycles (instructions gathering 1000 gatherer.state) ≡ [] ∷ (20 ∷ 37 ∷ []) ∷ [] ∷ []
+  pub gather_serves : serve_cycles (instructions gathering 1000 gatherer.state) ≡ [] ∷ (37 ∷ 41 ∷ 45 ∷ 49 ∷ 53 ∷ 57 ∷ 61 ∷ 65 ∷ []) ∷ [] ∷ []
+  pub gather_ends : figures (episode gathering 1000 gatherer) ≡ 71 ∷ 91 ∷ 2 ∷ 3 ∷ []
+
+-- a page of code that is away stops at the end of its walk; vectors that the process hasn't got, at the issue
+abbrev pub changed_in : Option EpisodeEnd → Option Bool
+changed_in e = option_map (λ (e : EpisodeEnd). e.changed_vectors) e
+
+abbrev pub code_away : Start
+code_away = started sequential (placed_page 16 5 Away ∷ []) 100
+
+abbrev pub lacking : Start
+lacking = record (started sequential (code_page ∷ []) 0) { has_vectors = false }
+
+abbrev pub having : Start
+having = started sequential (code_page ∷ []) 0
+
+pub record StopsHold : Type 0 where
+  pub code : figures (episode code_away 1000 (process no_vectors 0 0 0 [] writes_hi)) ≡ 117 ∷ 137 ∷ 0 ∷ 0 ∷ []
+  pub code_is : ended_of (episode code_away 1000 (process no_vectors 0 0 0 [] writes_hi)) ≡ Some (ended.Away 0x10000 Fetch)
+  pub lacks : figures (episode lacking 1000 (process no_vectors 0 0 0 [] configures)) ≡ 17 ∷ 37 ∷ 0 ∷ 0 ∷ []
+  pub lacks_vectors : ended_of (episode lacking 1000 (process no_vectors 0 0 0 [] configures)) ≡ Some ended.Vector
+  -- reading vlenb leaves the vector state as it was; a configuration changes it
+  pub reads : figures (episode having 1000 (process no_vectors 0 0 0 [] reads_vlenb)) ≡ 20 ∷ 40 ∷ 1 ∷ 1 ∷ []
+  pub reads_alone : changed_in (episode having 1000 (process no_vectors 0 0 0 [] reads_vlenb)) ≡ Some false
+  pub changes : changed_in (episode having 1000 (process no_vectors 0 64 0 [] configures)) ≡ Some true
+
+pub record ExamplesHold : Type 0 where
+  pub hi : HiHolds
+  pub calculates : CalculatesHolds
+  pub loads : LoadsHold
+  pub stores : StoresHold
+  pub across : AcrossHolds
+  pub trims : TrimsHold
+  pub in_flight : InFlightHold
+  pub waits : WaitsHold
+  pub stops : StopsHold

@@ -1,0 +1,13 @@
+pub mod Batches
+pub mod Commits
+pub mod Cycles
+pub mod Episode
+pub mod Examples
+pub mod Footprint
+pub mod History
+pub mod Instructions
+pub mod Log
+pub mod Ordered
+pub mod Organisation
+pub mod Played
+pub mod Show
