@@ -82,6 +82,8 @@ DisOn words other = ⊥
 
 dis_on : (words : List (List ℕ)) (command : Command) → AskFor (codes "dis" ∷ words) command → DisOn words command
 dis_on words (Dis name) asks = let e = asks.0 in (cc, asks.1)
+dis_on words (Execute Run givens image) asks = absurd (other_word (codes "dis") words (Execute Run givens image) refl refl asks)
+dis_on words (Execute Alone givens image) asks = absurd (other_word (codes "dis") words (Execute Alone givens image) refl refl asks)
 dis_on words other asks = absurd (other_word (codes "dis") words other refl refl asks)
 
 dis_fits : (words : List (List ℕ)) (command : Command) → DisOn words command → AreOneFile words
@@ -110,6 +112,8 @@ AsmOn words other = ⊥
 
 asm_on : (words : List (List ℕ)) (command : Command) → AskFor (codes "asm" ∷ words) command → AsmOn words command
 asm_on words (Asm name) asks = let e = asks.0 in (cc, asks.1)
+asm_on words (Execute Run givens image) asks = absurd (other_word (codes "asm") words (Execute Run givens image) refl refl asks)
+asm_on words (Execute Alone givens image) asks = absurd (other_word (codes "asm") words (Execute Alone givens image) refl refl asks)
 asm_on words other asks = absurd (other_word (codes "asm") words other refl refl asks)
 
 asm_fits : (words : List (List ℕ)) (command : Command) → AsmOn words command → AreOneFile words

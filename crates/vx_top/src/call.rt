@@ -50,8 +50,8 @@ fn dis<F: Shelf, K: Sink, N: Sink>(
     }
 }
 
-/// All that the program does: reads the words, runs the image, lists the file or assembles the source that they name, writes
-/// the report, the listing or the ELF file on `out`, and answers a status, with its note on `note`.
+/// All that the program does: reads the words, runs the image, on the machine or alone, lists the file or assembles the source
+/// that they name, writes the report, the listing or the ELF file on `out`, and answers a status, with its note on `note`.
 pub fn vexec<F: Shelf, K: Sink, N: Sink>(
     alloc: Global,
     words: &[String],

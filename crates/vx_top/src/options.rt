@@ -1,13 +1,14 @@
 ghost use Rattle.std.specs.Prelude.{◌≡◌, ◌≤◌, ◌^◌, true, IfSome, IsTrue, unwrap_or};
 ghost use Rattle.vx_base.specs.Options.{is_register_length};
 ghost use Rattle.vx_read.specs.Read.{AreInRange};
+ghost use Rattle.vx_words.specs.Words.{every};
 
 use vx_base::Options;
 use vx_read::RunWords;
 
 /// The number of an option that takes 1 alone.
 fn one(given: Option<u32>) -> u32
-    requires { IfSome given (λ n. (1 ≤ n) × (n ≤ 1)) }
+    requires { IfSome given (λ n. (1 ≤ n) × (n ≤ 1) × (every n ≡ true)) }
     ensures value { result ≡ unwrap_or given 1 }
     ensures one { result ≡ 1 }
 {
@@ -19,7 +20,7 @@ fn one(given: Option<u32>) -> u32
 
 /// The bits of a vector register.
 fn vlen(given: Option<u32>) -> u32
-    requires { IfSome given (λ n. is_register_length n ≡ true) }
+    requires { IfSome given (λ n. (128 ≤ n) × (n ≤ 2048) × (is_register_length n ≡ true)) }
     ensures value { result ≡ unwrap_or given 256 }
     ensures in_range { IsTrue (is_register_length result) }
 {
@@ -31,7 +32,7 @@ fn vlen(given: Option<u32>) -> u32
 
 /// The budget, in cycles or instructions.
 fn budget(given: Option<u64>) -> u64
-    requires { IfSome given (λ n. (1 ≤ n) × (n ≤ 2 ^ 40)) }
+    requires { IfSome given (λ n. (1 ≤ n) × (n ≤ 2 ^ 40) × (every n ≡ true)) }
     ensures value { result ≡ unwrap_or given 1000000000 }
     ensures positive { 1 ≤ result }
     ensures in_range { result ≤ 2 ^ 40 }

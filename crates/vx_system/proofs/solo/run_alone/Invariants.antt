@@ -1,4 +1,4 @@
-use Rattle.vx_system.proofs.Solo.{IsUnderWay}
+use Rattle.vx_system.proofs.UnderWay.{IsUnderWay}
 use Rattle.vx_system.proofs.solo.run_alone.Given as goal
 
 -- each turn so far was a step that completed an instruction
