@@ -1,5 +1,5 @@
 -- What stands first in words, and which of them is the first bad one.
-use Rattle.std.proofs.Common.{◌≡◌, ℕ, ◌<◌, ◌≤◌, true, false, List, [], ◌∷◌, ◌++◌, length, Option, Some, None, is_some, decimal, refl, sym, ap, subst, ◌∙◌, inl, inr, ⊎_elim, lit<, arith}
+use Rattle.std.proofs.Common.{◌≡◌, ℕ, ◌<◌, true, false, List, [], ◌∷◌, ◌++◌, length, Option, Some, None, is_some, decimal, refl, sym, ap, subst, ◌∙◌, inl, inr, ⊎_elim, lit<, arith}
 use Rattle.std.specs.Prelude.{codes}
 use Rattle.std.proofs.lemmas.Bool.{false≢true}
 use Rattle.vx_words.specs.Words.{OptionName, Given, row_of, is_same, is_option_of, given_number, IsInRange, IsFor, ImageFile, IsImage}

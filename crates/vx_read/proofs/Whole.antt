@@ -1,6 +1,5 @@
 -- From the words behind the word of a job to all of them.
 use Rattle.std.proofs.Common.{◌≡◌, ℕ, true, false, ◌+◌, ◌<◌, ◌≤◌, List, [], ◌∷◌, ◌++◌, take, drop, Option, Some, None, IfSome, sym, ap, subst, ◌∙◌, ⊎_elim, append_assoc, arith}
-use Rattle.std.specs.Prelude.{codes}
 use Rattle.std.proofs.lemmas.List.{take-take, take-append-drop}
 use Rattle.std.proofs.lemmas.Bool.{cases_lt}
 use Rattle.vx_words.specs.Words.{OptionName, Given, is_same, given_number, IsInRange, job_word, ImageFile, AskFor, AreBegun, IsFirstBad}

@@ -2,7 +2,6 @@ ghost use Rattle.std.specs.Prelude.{◌≡◌, IfOk, IfErr};
 ghost use Rattle.vx_read.specs.Images.{image_of};
 ghost use Rattle.vx_system.specs.Runs.{settings_of};
 ghost use Rattle.vx_top.specs.Files.{Ran, RanFile, Refuses};
-ghost use Rattle.vx_words.specs.declared.image_job.ImageJob.TheVariants.{Run, Alone};
 
 use crate::load::{load, name_of, read_file};
 use crate::refusal::Refusal;
@@ -25,7 +24,7 @@ pub struct Report {
 /// Runs an image on the machine.
 fn run_machine(alloc: Global, image: &Image, options: &Options) -> Result<Report, AllocError>
     requires window { options.now.window ≡ 1 }
-    ensures { IfOk result (Ran Run (settings_of options.now) image.now) }
+    ensures { IfOk result (Ran (ImageJob.Run) (settings_of options.now) image.now) }
 {
     accounts_are_true();
     let mut system = System::boot(alloc, image, options)?;
@@ -36,7 +35,7 @@ fn run_machine(alloc: Global, image: &Image, options: &Options) -> Result<Report
 
 /// Runs an image alone.
 fn run_flat(alloc: Global, image: &Image, options: &Options) -> Result<Report, AllocError>
-    ensures { IfOk result (Ran Alone (settings_of options.now) image.now) }
+    ensures { IfOk result (Ran (ImageJob.Alone) (settings_of options.now) image.now) }
 {
     accounts_are_true();
     let mut process = Alone::boot(alloc, image, options.vlen)?;
