@@ -12,8 +12,8 @@ use Rattle.vx_flat.specs.Outcome.Outcome.{Next, Exited, Faulted}
 use Rattle.vx_flat.specs.declared.end.End.{End}
 use Rattle.vx_flat.specs.declared.end.End.TheVariants as end
 use Rattle.vx_flat.specs.declared.hart.Hart.{Hart}
-use Rattle.vx_machine.specs.Accounts.{account_of, standing_of, IsTrueOf, StandsAlone}
-use Rattle.vx_machine.specs.Machine.{Machine}
+use Rattle.vx_machine.specs.Accounts.{account_with, standing_of, IsTrueOf, StandsAlone}
+use Rattle.vx_machine.specs.declared.account.Costs.{Costs}
 
 -- a process with these parts
 abbrev process : Flat → ℕ → Option End → Process
@@ -60,16 +60,16 @@ IsStanding-machine hart image (suc n) small =
 abbrev pub Grows : Type 0
 Grows = (hart : Hart) (image : Image) (n m : ℕ) (early late : Flat) → n ≤ m → flat hart image n ≡ Some early → flat hart image m ≡ Some late → IsPrefixOf early.output late.output
 
-IsTrueOf-standing : Grows → (hart : Hart) (image : Image) (n : ℕ) (m : Machine) (over : Option End) → Stands hart image n m.process.state m.process.count over → StandsAlone hart image m.process.count m.process.state.output (standing_of m.process.state.pc m.process.state.v.vstart over)
-IsTrueOf-standing grows hart image n m None h =
-    let count = m.process.count in
-    let s = m.process.state in
+IsTrueOf-standing : Grows → (hart : Hart) (image : Image) (n : ℕ) (p : Process) (over : Option End) → Stands hart image n p.state p.count over → StandsAlone hart image p.count p.state.output (standing_of p.state.pc p.state.v.vstart over)
+IsTrueOf-standing grows hart image n p None h =
+    let count = p.count in
+    let s = p.state in
     let at : flat hart image count ≡ Some s = subst (λ (k : ℕ). flat hart image k ≡ Some s) (sym h.0) h.1 in
     record { now = s; reached = at; at = refl; element = refl; wrote = refl; prefix = λ l late later is. grows hart image count l s late later at is }
-IsTrueOf-standing grows hart image n m (Some (end.Exited code)) h = record { last = m.process.state; exits = h; wrote = refl }
-IsTrueOf-standing grows hart image n m (Some (end.Faulted fault)) h = record { last = m.process.state; faults = h; at = refl; wrote = refl }
+IsTrueOf-standing grows hart image n p (Some (end.Exited code)) h = record { last = p.state; exits = h; wrote = refl }
+IsTrueOf-standing grows hart image n p (Some (end.Faulted fault)) h = record { last = p.state; faults = h; at = refl; wrote = refl }
 
-pub IsTrueOf-machine : Grows → (hart : Hart) (image : Image) (steps : ℕ) (m : Machine) → steps < 2 ^ 64 - 1 → m.process ≡ stepped_on steps (begun hart image) → IsTrueOf hart image (account_of m)
-IsTrueOf-machine grows hart image steps m small is =
+pub IsTrueOf-process : Grows → (hart : Hart) (image : Image) (steps : ℕ) (costs : Option Costs) (p : Process) → steps < 2 ^ 64 - 1 → p ≡ stepped_on steps (begun hart image) → IsTrueOf hart image (account_with costs p)
+IsTrueOf-process grows hart image steps costs p small is =
     let standing = subst (IsStanding hart image steps) (sym is) (IsStanding-machine hart image steps small) in
-    IsTrueOf-standing grows hart image steps m m.process.over standing
+    IsTrueOf-standing grows hart image steps p p.over standing

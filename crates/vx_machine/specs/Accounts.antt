@@ -2,11 +2,13 @@
 use Rattle.std.specs.Prelude.{◌≡◌, ℕ, ◌≤◌, ℤ, List, Option, Some, None}
 use Rattle.vx_base.specs.declared.machine.Fault.{Fault}
 use Rattle.vx_image.specs.Pages.{Image}
+use Rattle.vx_flat.specs.Process.{Process}
 use Rattle.vx_flat.specs.Run.{flat, Exits, Faults, IsPrefixOf}
 use Rattle.vx_flat.specs.State.{Flat}
 use Rattle.vx_flat.specs.declared.end.End.{End}
 use Rattle.vx_flat.specs.declared.hart.Hart.{Hart}
 use Rattle.vx_machine.specs.Machine.{Machine}
+use Rattle.vx_machine.specs.declared.account.Costs.{Costs}
 use Rattle.vx_flat.specs.declared.end.End.TheVariants as end
 
 -- how a process stands
@@ -18,8 +20,8 @@ pub data Standing : Type 0 where
 pub record Account : Type 0 where
   pub standing : Standing
   pub instructions : ℕ
-  pub cycles : ℕ
-  pub misses : ℕ
+  -- what the machine spent on it, where it ran on one
+  pub costs : Option Costs
   pub output : List ℕ
 
 abbrev pub standing_of : (pc vstart : ℕ) → Option End → Standing
@@ -27,15 +29,22 @@ standing_of pc vstart (Some (end.Exited code)) = Exited code
 standing_of pc vstart (Some (end.Faulted fault)) = Faulted fault pc
 standing_of pc vstart None = Stopped pc vstart
 
+-- what is told of a process with these costs
+abbrev pub account_with : Option Costs → Process → Account
+account_with costs p = record {
+  standing = standing_of p.state.pc p.state.v.vstart p.over;
+  instructions = p.count;
+  costs = costs;
+  output = p.state.output;
+}
+
 -- what is told of the machine's process
 abbrev pub account_of : Machine → Account
-account_of m = record {
-  standing = standing_of m.process.state.pc m.process.state.v.vstart m.process.over;
-  instructions = m.process.count;
-  cycles = m.cycles;
-  misses = 0;
-  output = m.process.state.output;
-}
+account_of m = account_with (Some (record { cycles = m.cycles; misses = 0 })) m.process
+
+-- what is told of a process alone
+abbrev pub account_alone : Process → Account
+account_alone p = account_with None p
 
 -- alone on the hart, the image exits so after n instructions and has written this
 pub record ExitsAlone (hart : Hart) (image : Image) (n : ℕ) (code : ℤ) (output : List ℕ) : Type 0 where

@@ -4,20 +4,25 @@ use Rattle.vx_base.specs.Shelf.{ShelfState, AsksFor, Reads, FailsToRead, IsTooLo
 use Rattle.vx_base.specs.Sink.{SinkState, IsWritten, IsBegun, IsCutOff}
 use Rattle.vx_elf.specs.Writing.{written}
 use Rattle.vx_image.specs.Pages.{Image}
+use Rattle.vx_flat.specs.Process.{begun, stepped_on}
 use Rattle.vx_language.specs.Assembly.{faults, first_fault, assembled}
 use Rattle.vx_language.specs.declared.fault.Fault.{Fault}
-use Rattle.vx_machine.specs.Accounts.{account_of, IsTrueOf}
+use Rattle.vx_machine.specs.Accounts.{account_of, account_alone, IsTrueOf}
+use Rattle.vx_machine.specs.Alone.{enabled, StopsAfter}
 use Rattle.vx_machine.specs.ImageFiles.{file_fault, image_of_file}
 use Rattle.vx_machine.specs.Machine.{Settings, settings_for, machine, stop_of}
 use Rattle.vx_machine.specs.Report.{report}
+use Rattle.vx_machine.specs.declared.account.Measure.TheVariants.{Cycles, Instructions}
 use Rattle.vx_machine.specs.declared.stop.Stop.{Stop}
 use Rattle.vx_machine.specs.declared.stop.Stop.TheVariants as stop
 use Rattle.vx_source.specs.Listing.{listing}
 use Rattle.vx_words.specs.Notes.{file_limit, bad_words, read_failed, bad_image, bad_source, write_failed, no_memory}
 use Rattle.vx_words.specs.declared.file_fault.FileFault.{FileFault}
 use Rattle.vx_words.specs.declared.file_fault.FileFault.TheVariants.{TooLong}
-use Rattle.vx_words.specs.Words.{Given, ImageFile, name_of, AskFor, AskForFile, AskToRun, AreOutside, IsFirstBad}
-use Rattle.vx_words.specs.Words.Command.{Run, Dis, Asm}
+use Rattle.vx_words.specs.Words.{Given, ImageFile, name_of, AskFor, AskForFile, AskToExecute, AreOutside, IsFirstBad}
+use Rattle.vx_words.specs.Words.Command.{Execute, Dis, Asm}
+use Rattle.vx_words.specs.declared.image_job.ImageJob.{ImageJob}
+use Rattle.vx_words.specs.declared.image_job.ImageJob.TheVariants.{Run, Alone}
 use Rattle.vx_words.specs.declared.status.Status.{Status}
 use Rattle.vx_words.specs.declared.status.Status.TheVariants.{Done, Usage, ReadFault, BadImage, WriteFault, Spent, NoMemory, BadSource}
 
@@ -32,8 +37,21 @@ pub record Devices : Type 0 where
 pub record Headline (settings : Settings) (image : Image) (stop : Stop) (text : List ℕ) : Type 0 where
   pub count : ℕ
   pub stops : stop_of settings (machine settings image count) ≡ Some stop
-  pub tells : text ≡ report (account_of (machine settings image count) ∷ []) (machine settings image count).clock stop
+  pub tells : text ≡ report (account_of (machine settings image count) ∷ []) (machine settings image count).clock Cycles stop
   pub values : IsTrueOf settings.hart image (account_of (machine settings image count))
+
+-- the image alone, on the hart with its vectors enabled, stops so after so many steps, the report tells its state, and what
+-- it tells is so
+pub record HeadlineAlone (settings : Settings) (image : Image) (stop : Stop) (text : List ℕ) : Type 0 where
+  pub steps : ℕ
+  pub stops : StopsAfter settings.budget (begun (enabled settings.hart) image) steps stop
+  pub tells : text ≡ report (account_alone (stepped_on steps (begun (enabled settings.hart) image)) ∷ []) (stepped_on steps (begun (enabled settings.hart) image)).count Instructions stop
+  pub values : IsTrueOf (enabled settings.hart) image (account_alone (stepped_on steps (begun (enabled settings.hart) image)))
+
+-- what a job with an image tells
+abbrev pub HeadlineOf : ImageJob → Settings → Image → Stop → List ℕ → Type 0
+HeadlineOf Run settings image stop text = Headline settings image stop text
+HeadlineOf Alone settings image stop text = HeadlineAlone settings image stop text
 
 -- the status of a run that stopped so
 abbrev pub status_of : Stop → Status
@@ -61,11 +79,11 @@ pub record HasReadFault (words : List (List ℕ)) (before after : Devices) : Typ
   pub out : after.out ≡ before.out
   pub note : IsNoted before.note after.note (read_failed name)
 
--- the words ask to run the image in the file of this name, and its bytes have the fault
+-- the words ask for a job with the image in the file of this name, and its bytes have the fault
 pub record HasBytesFault (words : List (List ℕ)) (before after : Devices) (name : List ℕ) (fault : FileFault) : Type 0 where
   pub file : ImageFile
   pub named : name ≡ name_of file
-  pub asks : AskToRun words file
+  pub asks : AskToExecute words file
   pub bytes : List ℕ
   pub read : Reads before.shelf after.shelf name file_limit bytes
   pub found : file_fault file bytes ≡ Some fault
@@ -83,16 +101,17 @@ pub record HasBadImage (words : List (List ℕ)) (before after : Devices) : Type
   pub out : after.out ≡ before.out
   pub note : IsNoted before.note after.note (bad_image name fault)
 
--- the words ask for a run; the file gives an image, and it ran and stopped with this status and this report
+-- the words ask for a job with an image; the file gives one, and it ran and stopped with this status and this report
 pub record HasRun (words : List (List ℕ)) (before after : Devices) (status : Status) (text : List ℕ) : Type 0 where
+  pub job : ImageJob
   pub givens : List Given
   pub file : ImageFile
-  pub asks : AskFor words (Run givens file)
+  pub asks : AskFor words (Execute job givens file)
   pub bytes : List ℕ
   pub read : Reads before.shelf after.shelf (name_of file) file_limit bytes
   pub is_image : file_fault file bytes ≡ None
   pub stop : Stop
-  pub headline : Headline (settings_for givens) (image_of_file file bytes) stop text
+  pub headline : HeadlineOf job (settings_for givens) (image_of_file file bytes) stop text
   pub answers : status ≡ status_of stop
 
 -- the words ask for a file's listing, and this is it

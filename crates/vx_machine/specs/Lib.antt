@@ -1,4 +1,5 @@
 pub mod Accounts
+pub mod Alone
 pub mod Claim
 pub mod ImageFiles
 pub mod Machine

@@ -5,6 +5,7 @@ use Rattle.vx_image.specs.Pages.{Image}
 use Rattle.vx_flat.specs.Process.{Process, begun, stepped}
 use Rattle.vx_flat.specs.Service.{service}
 use Rattle.vx_flat.specs.State.{Flat, register}
+use Rattle.vx_flat.specs.declared.end.End.{End}
 use Rattle.vx_flat.specs.declared.hart.Hart.{Hart}
 use Rattle.vx_machine.specs.declared.stop.Stop.{Stop}
 use Rattle.vx_machine.specs.declared.stop.Stop.TheVariants.{Done, Spent}
@@ -13,9 +14,10 @@ use Rattle.vx_times.specs.History.{Organisation}
 use Rattle.vx_times.specs.declared.pause.Pause.{Pause}
 use Rattle.vx_times.specs.declared.pause.Pause.TheVariants.{Slice, Service, Over}
 use Rattle.vx_words.specs.Words.{OptionName, Given, given_number}
-use Rattle.vx_words.specs.Words.OptionName.{Window, Lanes, Budget}
+use Rattle.vx_words.specs.Words.OptionName.{Vlen, Window, Lanes, Budget}
 
--- the hart and the organisation that a run is told for, the cycles of a slice, and the cycles after which the run ends
+-- the hart and the organisation that a run is told for, the cycles of a slice, and the cycles, or of an image alone the
+-- instructions, after which it ends
 pub record Settings : Type 0 where
   pub hart : Hart
   pub organisation : Organisation
@@ -29,7 +31,7 @@ number_or option default givens = unwrap_or (given_number option givens) default
 -- the settings of a run under these options; vector instructions aren't enabled
 abbrev pub settings_for : List Given → Settings
 settings_for givens = record {
-  hart = record { vlen = 256; vectors_enabled = false };
+  hart = record { vlen = number_or Vlen 256 givens; vectors_enabled = false };
   organisation = record { lanes = number_or Lanes 1 givens; banks = 8; bank_time = 4; window = number_or Window 1 givens };
   slice = 10000;
   budget = number_or Budget 1000000000 givens;
@@ -56,12 +58,14 @@ pub record Machine : Type 0 where
 abbrev pub booted_machine : Hart → Image → Machine
 booted_machine hart image = record { process = begun hart image; cycles = 0; clock = 0; slice_end = None; has_run = false }
 
--- how the run stops at a boundary: with the process ended, or else with the clock at the budget
+-- how a run that has used so much of its budget stops: with the process ended, or else with the budget reached
+abbrev pub stop_at : (budget used : ℕ) → Option End → Option Stop
+stop_at budget used (Some end) = Some Done
+stop_at budget used None = if nat_le budget used then Some Spent else None
+
+-- how the run stops at a boundary, by the clock
 abbrev pub stop_of : Settings → Machine → Option Stop
-stop_of settings m = elim (m.process.over) [
-  | Some end ↦ Some Done
-  | None ↦ if nat_le settings.budget m.clock then Some Spent else None
-]
+stop_of settings m = stop_at settings.budget m.clock m.process.over
 
 -- the process is given a slice from a cycle on
 abbrev pub given_slice : Settings → Machine → ℕ → Machine

@@ -5,8 +5,10 @@
 //! functions have no code: each states a law of the definitions.
 #![tactic(auto)]
 
+mod account;
 mod laws;
 mod stop;
 
+pub use account::{Costs, Measure};
 pub use laws::accounts_are_true;
 pub use stop::Stop;

@@ -3,22 +3,24 @@ use Rattle.std.proofs.Common.{◌≡◌, ◌≢◌, ℕ, ◌+◌, true, false, L
 use Rattle.std.specs.Prelude.{codes}
 use Rattle.std.specs.Str.{bytes_eq}
 use Rattle.std.proofs.lemmas.Bool.{false≢true}
-use Rattle.vx_words.specs.Words.{Command, AskFor, AreOutside, AreBegun, IsFirstBad}
-use Rattle.vx_words.specs.Words.Command.{Run, Dis, Asm}
+use Rattle.vx_words.specs.Words.{Command, Given, ImageFile, AskFor, AreOutside, AreBegun, IsFirstBad, job_word}
+use Rattle.vx_words.specs.Words.Command.{Execute, Dis, Asm}
+use Rattle.vx_words.specs.declared.image_job.ImageJob.{ImageJob}
+use Rattle.vx_words.specs.declared.image_job.ImageJob.TheVariants.{Run, Alone}
 use Rattle.vx_read.specs.Behind.{AreOptionsAndImage}
 use Rattle.vx_read.specs.Files.{IsOneFile, AreOneFile, AreBad}
 use Rattle.vx_read.proofs.Heads.{asks, asked}
 use Rattle.vx_read.proofs.OneFile.{some_file, one_name}
-use Rattle.vx_read.proofs.Whole.{AreRun, one_reading}
+use Rattle.vx_read.proofs.Whole.{AreOf, one_reading}
 
 -- the command's word
 abbrev pub word_of : Command → List ℕ
-word_of (Run givens image) = codes "run"
+word_of (Execute job givens image) = job_word job
 word_of (Dis name) = codes "dis"
 word_of (Asm name) = codes "asm"
 
 begins : (words : List (List ℕ)) (command : Command) → AskFor words command → (rest : List (List ℕ)) × (words ≡ word_of command ∷ rest)
-begins words (Run givens image) asks = (asks.0 ++ asks.1 ∷ [], asks.2)
+begins words (Execute job givens image) asks = (asks.0 ++ asks.1 ∷ [], asks.2)
 begins words (Dis name) asks = (name ∷ [], asks.0)
 begins words (Asm name) asks = (name ∷ [], asks.0)
 
@@ -36,32 +38,41 @@ pub record IsWordOf (word : List ℕ) (Fit : List (List ℕ) → Type 0) : Type 
   pub only : (words : List (List ℕ)) (command : Command) → AskFor (word ∷ words) command → Fit words
   pub same : (words : List (List ℕ)) (one other : Command) → AskFor (word ∷ words) one → AskFor (word ∷ words) other → one ≡ other
 
--- `run`
-abbrev RunOn : List (List ℕ) → Command → Type 0
-RunOn words (Run givens image) = AreOptionsAndImage words givens image
-RunOn words other = ⊥
+-- a job with an image
+abbrev JobOn : ImageJob → List (List ℕ) → Command → Type 0
+JobOn Run words (Execute Run givens image) = AreOptionsAndImage Run words givens image
+JobOn Alone words (Execute Alone givens image) = AreOptionsAndImage Alone words givens image
+JobOn job words other = ⊥
 
-run_on : (words : List (List ℕ)) (command : Command) → AskFor (codes "run" ∷ words) command → RunOn words command
-run_on words (Run givens image) asks = asked words givens image asks
-run_on words other asks = other_word (codes "run") words other refl refl asks
+job_on : (job : ImageJob) (words : List (List ℕ)) (command : Command) → AskFor (job_word job ∷ words) command → JobOn job words command
+job_on Run words (Execute Run givens image) asks = asked Run words givens image asks
+job_on Run words other asks = other_word (codes "run") words other refl refl asks
+job_on Alone words (Execute Alone givens image) asks = asked Alone words givens image asks
+job_on Alone words other asks = other_word (codes "alone") words other refl refl asks
 
-run_fits : (words : List (List ℕ)) (command : Command) → RunOn words command → AreRun words
-run_fits words (Run givens image) on = (givens, image, on)
-run_fits words other on = absurd on
+job_fits : (job : ImageJob) (words : List (List ℕ)) (command : Command) → JobOn job words command → AreOf job words
+job_fits Run words (Execute Run givens image) on = (givens, image, on)
+job_fits Alone words (Execute Alone givens image) on = (givens, image, on)
+job_fits job words other on = absurd on
 
-run_same : (words : List (List ℕ)) (one other : Command) → RunOn words one → RunOn words other → one ≡ other
-run_same words (Run givens image) (Run others more) on_one on_other =
-    let same = one_reading words givens others image more on_one on_other in
+one_execution : (job : ImageJob) (words : List (List ℕ)) (givens others : List Given) (image more : ImageFile) → AreOptionsAndImage job words givens image → AreOptionsAndImage job words others more → Execute job givens image ≡ Execute job others more
+one_execution job words givens others image more on_one on_other =
+    let same = one_reading job words givens others image more on_one on_other in
     let givens_are = same.0 in
     let images_are = same.1 in cc
-run_same words (Run givens image) other on_one on_other = absurd on_other
-run_same words one other on_one on_other = absurd on_one
 
-pub run_word : IsWordOf (codes "run") AreRun
-run_word = record {
-  some = λ words fit. (Run fit.0 fit.1, asks words fit.0 fit.1 fit.2);
-  only = λ words command asks. run_fits words command (run_on words command asks);
-  same = λ words one other asks_one asks_other. run_same words one other (run_on words one asks_one) (run_on words other asks_other);
+job_same : (job : ImageJob) (words : List (List ℕ)) (one other : Command) → JobOn job words one → JobOn job words other → one ≡ other
+job_same Run words (Execute Run givens image) (Execute Run others more) on_one on_other = one_execution Run words givens others image more on_one on_other
+job_same Alone words (Execute Alone givens image) (Execute Alone others more) on_one on_other = one_execution Alone words givens others image more on_one on_other
+job_same Run words (Execute Run givens image) other on_one on_other = absurd on_other
+job_same Alone words (Execute Alone givens image) other on_one on_other = absurd on_other
+job_same job words one other on_one on_other = absurd on_one
+
+pub word_of_job : (job : ImageJob) → IsWordOf (job_word job) (AreOf job)
+word_of_job job = record {
+  some = λ words fit. (Execute job fit.0 fit.1, asks job words fit.0 fit.1 fit.2);
+  only = λ words command asks. job_fits job words command (job_on job words command asks);
+  same = λ words one other asks_one asks_other. job_same job words one other (job_on job words one asks_one) (job_on job words other asks_other);
 }
 
 -- `dis`
@@ -71,6 +82,8 @@ DisOn words other = ⊥
 
 dis_on : (words : List (List ℕ)) (command : Command) → AskFor (codes "dis" ∷ words) command → DisOn words command
 dis_on words (Dis name) asks = let e = asks.0 in (cc, asks.1)
+dis_on words (Execute Run givens image) asks = absurd (other_word (codes "dis") words (Execute Run givens image) refl refl asks)
+dis_on words (Execute Alone givens image) asks = absurd (other_word (codes "dis") words (Execute Alone givens image) refl refl asks)
 dis_on words other asks = absurd (other_word (codes "dis") words other refl refl asks)
 
 dis_fits : (words : List (List ℕ)) (command : Command) → DisOn words command → AreOneFile words
@@ -99,6 +112,8 @@ AsmOn words other = ⊥
 
 asm_on : (words : List (List ℕ)) (command : Command) → AskFor (codes "asm" ∷ words) command → AsmOn words command
 asm_on words (Asm name) asks = let e = asks.0 in (cc, asks.1)
+asm_on words (Execute Run givens image) asks = absurd (other_word (codes "asm") words (Execute Run givens image) refl refl asks)
+asm_on words (Execute Alone givens image) asks = absurd (other_word (codes "asm") words (Execute Alone givens image) refl refl asks)
 asm_on words other asks = absurd (other_word (codes "asm") words other refl refl asks)
 
 asm_fits : (words : List (List ℕ)) (command : Command) → AsmOn words command → AreOneFile words
@@ -150,19 +165,20 @@ begun_none = let some = dis_word.some some_file.0 some_file.1 in (codes "dis" �
 pub first_bad_none : IsFirstBad [] 0
 first_bad_none = record { begun = begun_none; within = omega arith; bad = λ inside begun. absurd (omega arith) }
 
-no_word : (word : List ℕ) (command : Command) → word ≢ codes "run" → word ≢ codes "dis" → word ≢ codes "asm" → word ≡ word_of command → ⊥
-no_word word (Run givens image) no_run no_dis no_asm is = no_run is
-no_word word (Dis name) no_run no_dis no_asm is = no_dis is
-no_word word (Asm name) no_run no_dis no_asm is = no_asm is
+no_word : (word : List ℕ) (command : Command) → word ≢ codes "run" → word ≢ codes "alone" → word ≢ codes "dis" → word ≢ codes "asm" → word ≡ word_of command → ⊥
+no_word word (Execute Run givens image) no_run no_alone no_dis no_asm is = no_run is
+no_word word (Execute Alone givens image) no_run no_alone no_dis no_asm is = no_alone is
+no_word word (Dis name) no_run no_alone no_dis no_asm is = no_dis is
+no_word word (Asm name) no_run no_alone no_dis no_asm is = no_asm is
 
-pub outside_command : (word : List ℕ) (rest : List (List ℕ)) → word ≢ codes "run" → word ≢ codes "dis" → word ≢ codes "asm" → AreOutside (word ∷ rest)
-outside_command word rest no_run no_dis no_asm command asks = no_word word command no_run no_dis no_asm (word_is word rest command asks)
+pub outside_command : (word : List ℕ) (rest : List (List ℕ)) → word ≢ codes "run" → word ≢ codes "alone" → word ≢ codes "dis" → word ≢ codes "asm" → AreOutside (word ∷ rest)
+outside_command word rest no_run no_alone no_dis no_asm command asks = no_word word command no_run no_alone no_dis no_asm (word_is word rest command asks)
 
-pub first_bad_command : (word : List ℕ) (rest : List (List ℕ)) → word ≢ codes "run" → word ≢ codes "dis" → word ≢ codes "asm" → IsFirstBad (word ∷ rest) 0
-first_bad_command word rest no_run no_dis no_asm = record {
+pub first_bad_command : (word : List ℕ) (rest : List (List ℕ)) → word ≢ codes "run" → word ≢ codes "alone" → word ≢ codes "dis" → word ≢ codes "asm" → IsFirstBad (word ∷ rest) 0
+first_bad_command word rest no_run no_alone no_dis no_asm = record {
   begun = begun_none;
   within = omega arith;
-  bad = λ inside begun. outside_command word begun.0 no_run no_dis no_asm begun.1 begun.2;
+  bad = λ inside begun. outside_command word begun.0 no_run no_alone no_dis no_asm begun.1 begun.2;
 }
 
 -- the words ask for one command
@@ -172,6 +188,6 @@ one_by word Fit words rest one other of is asks_one asks_other =
     let Other : List (List ℕ) → Type 0 = λ w. AskFor w other in of.same rest one other (subst One is asks_one) (subst Other is asks_other)
 
 pub one_command : (words : List (List ℕ)) (one other : Command) → AskFor words one → AskFor words other → one ≡ other
-one_command words (Run givens image) other asks_one asks_other = one_by (codes "run") AreRun words (asks_one.0 ++ asks_one.1 ∷ []) (Run givens image) other run_word asks_one.2 asks_one asks_other
+one_command words (Execute job givens image) other asks_one asks_other = one_by (job_word job) (AreOf job) words (asks_one.0 ++ asks_one.1 ∷ []) (Execute job givens image) other (word_of_job job) asks_one.2 asks_one asks_other
 one_command words (Dis name) other asks_one asks_other = one_by (codes "dis") AreOneFile words (name ∷ []) (Dis name) other dis_word asks_one.0 asks_one asks_other
 one_command words (Asm name) other asks_one asks_other = one_by (codes "asm") AreOneFile words (name ∷ []) (Asm name) other asm_word asks_one.0 asks_one asks_other

@@ -5,15 +5,16 @@ use Rattle.std.specs.Str.{bytes_eq}
 use Rattle.std.proofs.lemmas.Bool.{false≢true}
 use Rattle.vx_words.specs.Words.{OptionName, row_of, is_same, IsFile, ImageFile, IsRawImage, IsImage}
 use Rattle.vx_words.specs.Words.ImageFile.{Raw, Elf}
-use Rattle.vx_words.specs.Words.OptionName.{Window, Lanes, Budget}
+use Rattle.vx_words.specs.Words.OptionName.{Vlen, Window, Lanes, Budget}
 use Rattle.vx_read.specs.Forms.{IsBoth}
 
 -- the option whose word this is
 abbrev named : List ℕ → Option OptionName
 named word =
-    cond (bytes_eq word (codes "--window")) (Some Window)
+    cond (bytes_eq word (codes "--vlen")) (Some Vlen)
+    (cond (bytes_eq word (codes "--window")) (Some Window)
     (cond (bytes_eq word (codes "--lanes")) (Some Lanes)
-    (cond (bytes_eq word (codes "--budget")) (Some Budget) None))
+    (cond (bytes_eq word (codes "--budget")) (Some Budget) None)))
 
 -- what stands before the first `=`, and what behind it
 abbrev before_equals : List ℕ → List ℕ
@@ -35,6 +36,7 @@ record IsNameOf (option : OptionName) (word : List ℕ) : Type 0 where
   first : get_or word 0 0 ≡ 45
 
 row_is_name : (option : OptionName) → IsNameOf option (row_of option).word
+row_is_name Vlen = record { named_so = refl; no_equals = refl; first = refl }
 row_is_name Window = record { named_so = refl; no_equals = refl; first = refl }
 row_is_name Lanes = record { named_so = refl; no_equals = refl; first = refl }
 row_is_name Budget = record { named_so = refl; no_equals = refl; first = refl }
@@ -47,6 +49,7 @@ record IsBothOf (option : OptionName) (text word : List ℕ) : Type 0 where
   first : get_or word 0 0 ≡ 45
 
 row_is_both : (option : OptionName) (text : List ℕ) → IsBothOf option text ((row_of option).word ++ codes "=" ++ text)
+row_is_both Vlen text = record { before = refl; behind = refl; equals = refl; first = refl }
 row_is_both Window text = record { before = refl; behind = refl; equals = refl; first = refl }
 row_is_both Lanes text = record { before = refl; behind = refl; equals = refl; first = refl }
 row_is_both Budget text = record { before = refl; behind = refl; equals = refl; first = refl }
@@ -106,12 +109,14 @@ image_is_image word (Elf one) (Elf other) is_one is_other = ap (λ name. Elf nam
 
 -- an option is the same as itself, and as no other
 pub same_option : (one other : OptionName) → is_same one other ≡ true → one ≡ other
+same_option Vlen Vlen same = refl
 same_option Window Window same = refl
 same_option Lanes Lanes same = refl
 same_option Budget Budget same = refl
 same_option one other same = absurd (false≢true same)
 
 pub is_same_itself : (option : OptionName) → is_same option option ≡ true
+is_same_itself Vlen = refl
 is_same_itself Window = refl
 is_same_itself Lanes = refl
 is_same_itself Budget = refl

@@ -1,23 +1,25 @@
 -- The numbers that options were given so far. This project's own.
 use Rattle.std.specs.Prelude.{◌≡◌, ℕ, Option, None}
 use Rattle.vx_words.specs.Words.{OptionName, ImageFile}
-use Rattle.vx_words.specs.Words.OptionName.{Window, Lanes, Budget}
+use Rattle.vx_words.specs.Words.OptionName.{Vlen, Window, Lanes, Budget}
 use Rattle.vx_read.specs.declared.numbers.Numbers.{Numbers}
 use Rattle.vx_read.specs.declared.run_words.RunWords.{RunWords}
 use Rattle.vx_read.specs.Images.{image_of}
 
 -- the option's number
 abbrev pub number_in : OptionName → Numbers → Option ℕ
+number_in Vlen numbers = numbers.vlen
 number_in Window numbers = numbers.window
 number_in Lanes numbers = numbers.lanes
 number_in Budget numbers = numbers.budget
 
 -- no option has one
 abbrev pub nothing : Numbers
-nothing = record { window = None; lanes = None; budget = None }
+nothing = record { vlen = None; window = None; lanes = None; budget = None }
 
--- the words of a run are these numbers and this image
+-- the words of a command are these numbers and this image
 pub record IsRunOf (numbers : Numbers) (image : ImageFile) (run : RunWords) : Type 0 where
+  pub vlen : run.vlen ≡ numbers.vlen
   pub window : run.window ≡ numbers.window
   pub lanes : run.lanes ≡ numbers.lanes
   pub budget : run.budget ≡ numbers.budget

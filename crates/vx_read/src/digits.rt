@@ -51,5 +51,8 @@ pub fn number_for(setting: Setting, text: &str) -> Option<u64>
     if row.greatest < number {
         return None;
     }
+    if !setting.takes(number) {
+        return None;
+    }
     Some(number)
 }

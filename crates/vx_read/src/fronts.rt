@@ -10,6 +10,7 @@ use crate::forms::{Form, form_of};
 use crate::image_word::ImageWord;
 use crate::numbers::Numbers;
 use crate::settings::Setting;
+use vx_words::ImageJob;
 
 /// What stands first in the words behind those that are read.
 #[derive(Clone, Copy)]
@@ -32,24 +33,29 @@ pub fn first_word<'a>(words: &'a [String]) -> Option<(&'a str, &'a [String])>
     Some((word.as_str(), rest))
 }
 
-/// What stands first in the words, behind those that gave these numbers.
-pub fn front_of<'a>(words: &'a [String], numbers: &Numbers) -> Front<'a>
-    ensures { IsFront numbers.now (map string_bytes words.now) result }
+/// What stands first in the words of the job, behind those that gave these numbers.
+pub fn front_of<'a>(job: ImageJob, words: &'a [String], numbers: &Numbers) -> Front<'a>
+    ensures { IsFront job numbers.now (map string_bytes words.now) result }
 {
     let Some((word, rest)) = first_word(words) else {
         return Front::Bad(0);
     };
     match form_of(word) {
-        Form::Image(image) => image_front(image, rest, numbers),
-        Form::Name(setting) => name_front(setting, rest, numbers),
-        Form::Both(setting, text) => both_front(setting, text, rest, numbers),
+        Form::Image(image) => image_front(job, image, rest, numbers),
+        Form::Name(setting) => name_front(job, setting, rest, numbers),
+        Form::Both(setting, text) => both_front(job, setting, text, rest, numbers),
         Form::Other => Front::Bad(0),
     }
 }
 
 /// What stands first where that is this image, and these words are behind it.
-fn image_front<'a>(image: ImageWord<'a>, rest: &'a [String], numbers: &Numbers) -> Front<'a>
-    ensures { (word : List ℕ) → IsImage word (image_of image.entry) → IsFront numbers.now (word ∷ map string_bytes rest.now) result }
+fn image_front<'a>(
+    job: ImageJob,
+    image: ImageWord<'a>,
+    rest: &'a [String],
+    numbers: &Numbers,
+) -> Front<'a>
+    ensures { (word : List ℕ) → IsImage word (image_of image.entry) → IsFront job numbers.now (word ∷ map string_bytes rest.now) result }
 {
     if rest.is_empty() {
         Front::Image(image)
@@ -59,9 +65,17 @@ fn image_front<'a>(image: ImageWord<'a>, rest: &'a [String], numbers: &Numbers) 
 }
 
 /// What stands first where that is the option's word, and these words are behind it.
-fn name_front<'a>(setting: Setting, rest: &'a [String], numbers: &Numbers) -> Front<'a>
-    ensures { (word : List ℕ) → word ≡ (row_of (option_of setting)).word → IsFront numbers.now (word ∷ map string_bytes rest.now) result }
+fn name_front<'a>(
+    job: ImageJob,
+    setting: Setting,
+    rest: &'a [String],
+    numbers: &Numbers,
+) -> Front<'a>
+    ensures { (word : List ℕ) → word ≡ (row_of (option_of setting)).word → IsFront job numbers.now (word ∷ map string_bytes rest.now) result }
 {
+    if !setting.is_for(job) {
+        return Front::Bad(0);
+    }
     if numbers.has(setting) {
         return Front::Bad(0);
     }
@@ -75,9 +89,18 @@ fn name_front<'a>(setting: Setting, rest: &'a [String], numbers: &Numbers) -> Fr
 }
 
 /// What stands first where that is the option's word with this text, and these words are behind it.
-fn both_front<'a>(setting: Setting, text: &str, rest: &'a [String], numbers: &Numbers) -> Front<'a>
-    ensures { (word : List ℕ) → IsBoth word (option_of setting) text.now → IsFront numbers.now (word ∷ map string_bytes rest.now) result }
+fn both_front<'a>(
+    job: ImageJob,
+    setting: Setting,
+    text: &str,
+    rest: &'a [String],
+    numbers: &Numbers,
+) -> Front<'a>
+    ensures { (word : List ℕ) → IsBoth word (option_of setting) text.now → IsFront job numbers.now (word ∷ map string_bytes rest.now) result }
 {
+    if !setting.is_for(job) {
+        return Front::Bad(0);
+    }
     if numbers.has(setting) {
         return Front::Bad(0);
     }

@@ -11,6 +11,7 @@ use crate::settings::Setting;
 /// The numbers that options were given so far.
 #[derive(Clone, Copy)]
 pub struct Numbers {
+    pub vlen: Option<u32>,
     pub window: Option<u32>,
     pub lanes: Option<u32>,
     pub budget: Option<u64>,
@@ -22,6 +23,7 @@ impl Numbers {
         ensures { result ≡ nothing }
     {
         Numbers {
+            vlen: None,
             window: None,
             lanes: None,
             budget: None,
@@ -33,6 +35,7 @@ impl Numbers {
         ensures { result ≡ is_some (number_in (option_of setting) self.now) }
     {
         match setting {
+            Setting::Vlen => self.vlen.is_some(),
             Setting::Window => self.window.is_some(),
             Setting::Lanes => self.lanes.is_some(),
             Setting::Budget => self.budget.is_some(),
@@ -45,6 +48,10 @@ impl Numbers {
         ensures { (option : OptionName) → number_in option result ≡ (if is_same (option_of setting) option then Some number else number_in option self) }
     {
         match setting {
+            Setting::Vlen => Numbers {
+                vlen: Some(number as u32),
+                ..self
+            },
             Setting::Window => Numbers {
                 window: Some(number as u32),
                 ..self
@@ -60,11 +67,12 @@ impl Numbers {
         }
     }
 
-    /// The words of `run` with these numbers and this image.
+    /// The words of a command with these numbers and this image.
     pub fn run_of<'a>(self, image: ImageWord<'a>) -> RunWords<'a>
         ensures { IsRunOf self (image_of image.entry) result }
     {
         RunWords {
+            vlen: self.vlen,
             window: self.window,
             lanes: self.lanes,
             budget: self.budget,

@@ -1,13 +1,15 @@
 use crate::image_word::ImageWord;
 
-/// What the words of `run` say. An option that isn't given has no number.
+/// What the words of `run` or `alone` say. An option that isn't given has no number.
 #[derive(Clone, Copy, PartialEq, Eq, Debug)]
 pub struct RunWords<'a> {
+    /// Bits of a vector register: 128, 256, 512, 1,024 or 2,048.
+    pub vlen: Option<u32>,
     /// Instructions in flight: 1.
     pub window: Option<u32>,
     /// Lanes: 1.
     pub lanes: Option<u32>,
-    /// Cycles after which the run ends: 1 to 2^40.
+    /// Cycles, or of `alone` instructions, after which the run ends: 1 to 2^40.
     pub budget: Option<u64>,
     /// What file the image is in.
     pub image: ImageWord<'a>,

@@ -1,17 +1,26 @@
 ghost use Rattle.std.specs.Prelude.{◌≡◌, MatchOption};
-ghost use Rattle.vx_words.specs.Words.{OptionName, row_of};
+ghost use Rattle.vx_base.specs.Options.{is_register_length};
+ghost use Rattle.vx_words.specs.Words.{OptionName, row_of, is_option_of};
 ghost use Rattle.vx_read.specs.Settings.{option_of, IsRow};
+
+use vx_words::ImageJob;
 
 /// An option of the command line. Each takes a number.
 #[derive(Clone, Copy, PartialEq, Eq, Debug)]
 pub enum Setting {
+    Vlen,
     Window,
     Lanes,
     Budget,
 }
 
 /// The options.
-const SETTINGS: [Setting; 3] = [Setting::Window, Setting::Lanes, Setting::Budget];
+const SETTINGS: [Setting; 4] = [
+    Setting::Vlen,
+    Setting::Window,
+    Setting::Lanes,
+    Setting::Budget,
+];
 
 /// An option's word, and the least and the greatest number that it takes.
 #[derive(Clone, Copy)]
@@ -21,12 +30,24 @@ pub struct Row {
     pub greatest: u64,
 }
 
+/// Whether a vector register may have so many bits.
+fn is_register_length(bits: u64) -> bool
+    ensures { result ≡ is_register_length bits }
+{
+    bits == 128 || bits == 256 || bits == 512 || bits == 1024 || bits == 2048
+}
+
 impl Setting {
     /// The option's row.
     pub fn row(self) -> Row
         ensures { IsRow (option_of self) result }
     {
         match self {
+            Setting::Vlen => Row {
+                word: "--vlen",
+                least: 128,
+                greatest: 2048,
+            },
             Setting::Window => Row {
                 word: "--window",
                 least: 1,
@@ -41,6 +62,32 @@ impl Setting {
                 word: "--budget",
                 least: 1,
                 greatest: 1 << 40,
+            },
+        }
+    }
+
+    /// Whether the option takes this number, of those from the least to the greatest.
+    pub fn takes(self, number: u64) -> bool
+        ensures { result ≡ (row_of (option_of self)).takes number }
+    {
+        match self {
+            Setting::Vlen => is_register_length(number),
+            Setting::Window | Setting::Lanes | Setting::Budget => true,
+        }
+    }
+
+    /// Whether the option may be given for the job.
+    pub fn is_for(self, job: ImageJob) -> bool
+        ensures { result ≡ is_option_of job (option_of self) }
+    {
+        match job {
+            ImageJob::Run => match self {
+                Setting::Vlen => false,
+                Setting::Window | Setting::Lanes | Setting::Budget => true,
+            },
+            ImageJob::Alone => match self {
+                Setting::Vlen | Setting::Budget => true,
+                Setting::Window | Setting::Lanes => false,
             },
         }
     }

@@ -3,3 +3,5 @@ pub mod Quiet
 pub mod Rounds
 pub mod Services
 pub mod Steps
+pub mod Stops
+pub mod UnderWay

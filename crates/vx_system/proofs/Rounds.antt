@@ -1,13 +1,12 @@
 -- The rounds of a run, one after another.
-use Rattle.std.proofs.Common.{◌≡◌, ℕ, suc, Bool, true, false, ◌≤◌, ◌<◌, ◌^◌, refl, sym, ap, ◌∙◌}
-use Rattle.std.proofs.lemmas.Bool.{le-leb, lt-leb}
-use Rattle.std.specs.Prelude.{Option, Some, None, is_some, nat_le, if◌then◌else◌}
+use Rattle.std.proofs.Common.{◌≡◌, ℕ, suc, true, false, ◌≤◌, ◌<◌, ◌^◌, refl, sym, ap, ◌∙◌}
+use Rattle.std.specs.Prelude.{Option, Some, None, is_some}
 use Rattle.vx_flat.specs.declared.end.End.{End}
-use Rattle.vx_machine.specs.Machine.{Machine, Settings, round, rounds, stop_of}
+use Rattle.vx_machine.specs.Machine.{Machine, Settings, round, rounds, stop_at, stop_of}
 use Rattle.vx_machine.specs.declared.stop.Stop.{Stop}
 use Rattle.vx_machine.specs.declared.stop.Stop.TheVariants.{Done, Spent}
-use Rattle.vx_system.proofs.Episodes.{true-false}
 use Rattle.vx_system.proofs.Steps.{StepsTo-none, StepsTo-join}
+use Rattle.vx_system.proofs.Stops.{stop_at-done, stop_at-spent, stop_at-none}
 use Rattle.vx_system.specs.Runs.{SystemState, StepsTo, Runs, with_machine}
 
 -- the machine has done some rounds, and the process has taken steps up to the clock
@@ -50,32 +49,15 @@ Runs-stop before now stop h bounded stops = record {
   bounded = bounded;
 }
 
--- how a run stops, by how its process ended
-abbrev stop_by : Settings → ℕ → Option End → Option Stop
-stop_by settings clock None = if nat_le settings.budget clock then Some Spent else None
-stop_by settings clock (Some end) = Some Done
-
-stop_of-by : (settings : Settings) (m : Machine) (o : Option End) → m.process.over ≡ o → stop_of settings m ≡ stop_by settings m.clock o
-stop_of-by settings m o e = ap (stop_by settings m.clock) e
-
-stop_by-done : (settings : Settings) (clock : ℕ) (o : Option End) → is_some o ≡ true → stop_by settings clock o ≡ Some Done
-stop_by-done settings clock (Some end) e = refl
-stop_by-done settings clock None e = absurd (true-false (sym e))
-
-stop_by-spent : (settings : Settings) (clock : ℕ) (o : Option End) → is_some o ≡ false → settings.budget ≤ clock → stop_by settings clock o ≡ Some Spent
-stop_by-spent settings clock (Some end) e late = absurd (true-false e)
-stop_by-spent settings clock None e late = ap (λ (b : Bool). if b then Some Spent else None) (le-leb settings.budget clock late)
-
-stop_by-none : (settings : Settings) (clock : ℕ) (o : Option End) → is_some o ≡ false → clock < settings.budget → stop_by settings clock o ≡ None
-stop_by-none settings clock (Some end) e early = absurd (true-false e)
-stop_by-none settings clock None e early = ap (λ (b : Bool). if b then Some Spent else None) (lt-leb settings.budget clock early)
-
 -- it stops so
+stop_of-by : (settings : Settings) (m : Machine) (o : Option End) → m.process.over ≡ o → stop_of settings m ≡ stop_at settings.budget m.clock o
+stop_of-by settings m o e = ap (stop_at settings.budget m.clock) e
+
 pub stop_of-done : (s : SystemState) (o : Option End) → s.machine.process.over ≡ o → is_some o ≡ true → stop_of s.settings s.machine ≡ Some Done
-stop_of-done s o e h = stop_of-by s.settings s.machine o e ∙ stop_by-done s.settings s.machine.clock o h
+stop_of-done s o e h = stop_of-by s.settings s.machine o e ∙ stop_at-done s.settings.budget s.machine.clock o h
 
 pub stop_of-spent : (s : SystemState) (o : Option End) → s.machine.process.over ≡ o → is_some o ≡ false → s.settings.budget ≤ s.machine.clock → stop_of s.settings s.machine ≡ Some Spent
-stop_of-spent s o e h late = stop_of-by s.settings s.machine o e ∙ stop_by-spent s.settings s.machine.clock o h late
+stop_of-spent s o e h late = stop_of-by s.settings s.machine o e ∙ stop_at-spent s.settings.budget s.machine.clock o h late
 
 pub stop_of-none : (s : SystemState) (o : Option End) → s.machine.process.over ≡ o → is_some o ≡ false → s.machine.clock < s.settings.budget → stop_of s.settings s.machine ≡ None
-stop_of-none s o e h early = stop_of-by s.settings s.machine o e ∙ stop_by-none s.settings s.machine.clock o h early
+stop_of-none s o e h early = stop_of-by s.settings s.machine o e ∙ stop_at-none s.settings.budget s.machine.clock o h early

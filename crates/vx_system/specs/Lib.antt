@@ -1,4 +1,5 @@
 pub mod Kept
 pub mod Order
 pub mod Runs
+pub mod Solo
 pub mod Told

@@ -6,7 +6,6 @@ abbrev pub told : ProcessReport → Account
 told process = record {
   standing = standing_of process.pc process.vstart process.over;
   instructions = process.instructions;
-  cycles = process.cycles;
-  misses = process.misses;
+  costs = process.costs;
   output = process.output.now;
 }

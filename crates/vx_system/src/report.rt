@@ -1,14 +1,15 @@
 ghost use Rattle.std.specs.Prelude.{◌≡◌, ◌+◌, ◌<◌, ◌++◌, ◌∷◌, [], codes, decimal, length, IfOk, OnOk, Some, None, string_bytes};
 ghost use Rattle.vx_base.specs.Hex.{hex_digits};
-ghost use Rattle.vx_machine.specs.Accounts.{Account, standing_of};
+ghost use Rattle.vx_machine.specs.Accounts.{account_with, standing_of};
 ghost use Rattle.vx_system.specs.Told.{told};
 ghost use Rattle.vx_words.specs.Lines.{line};
-ghost use Rattle.vx_machine.specs.Report.{standing_words, process_text, stop_word};
+ghost use Rattle.vx_machine.specs.Report.{standing_words, count_words, process_text, measure_word, stop_word, report};
 
 use std::alloc::{AllocError, Global};
-use vx_base::{Fault, push_hex};
+use vx_alone::Alone;
+use vx_base::{Bytes, Fault, push_hex};
 use vx_flat::End;
-use vx_machine::Stop;
+use vx_machine::{Costs, Measure, Stop};
 
 /// What the report tells of a process.
 #[derive(Clone, Copy, Debug)]
@@ -17,8 +18,7 @@ pub struct ProcessReport<'a> {
     pub pc: u64,
     pub vstart: u32,
     pub instructions: u64,
-    pub cycles: u64,
-    pub misses: u64,
+    pub costs: Option<Costs>,
     pub output: &'a [u8],
 }
 
@@ -105,17 +105,41 @@ fn push_standing(
     }
 }
 
-/// Appends the line of a process's counts.
+/// Appends the line of the instructions of a process, and of what they cost.
 fn push_counts(
     alloc: Global,
     text: &mut Vec<u8>,
-    process: &ProcessReport<'_>,
+    instructions: u64,
+    costs: Option<Costs>,
 ) -> Result<(), AllocError>
-    ensures { OnOk result (text.new.items ≡ text.old.items ++ line (codes "  instructions " ∷ decimal process.now.instructions ∷ codes " cycles " ∷ decimal process.now.cycles ∷ codes " misses " ∷ decimal process.now.misses ∷ [])) }
+    ensures { OnOk result (text.new.items ≡ text.old.items ++ line (count_words instructions costs)) }
 {
-    let instructions = process.instructions;
-    let cycles = process.cycles;
-    let misses = process.misses;
+    match costs {
+        None => push_instructions(alloc, text, instructions),
+        Some(costs) => push_costs(alloc, text, instructions, costs),
+    }
+}
+
+/// Appends the line of the instructions of a process.
+fn push_instructions(alloc: Global, text: &mut Vec<u8>, instructions: u64) -> Result<(), AllocError>
+    ensures { OnOk result (text.new.items ≡ text.old.items ++ line (count_words instructions None)) }
+{
+    let counts = format!(in alloc; "  instructions {instructions}\n")?;
+    text.extend_from_slice(counts.as_bytes())?;
+    Ok(())
+}
+
+/// Appends the line of the instructions of a process, which cost this.
+fn push_costs(
+    alloc: Global,
+    text: &mut Vec<u8>,
+    instructions: u64,
+    costs: Costs,
+) -> Result<(), AllocError>
+    ensures { OnOk result (text.new.items ≡ text.old.items ++ line (count_words instructions (Some costs))) }
+{
+    let cycles = costs.cycles;
+    let misses = costs.misses;
     let counts = format!(in alloc;
         "  instructions {instructions} cycles {cycles} misses {misses}\n"
     )?;
@@ -136,7 +160,7 @@ fn push_output(alloc: Global, text: &mut Vec<u8>, output: &[u8]) -> Result<(), A
 }
 
 /// Appends what the report tells of the process of that number.
-pub fn push_process(
+fn push_process(
     alloc: Global,
     text: &mut Vec<u8>,
     number: u32,
@@ -145,7 +169,7 @@ pub fn push_process(
     ensures { OnOk result (text.new.items ≡ text.old.items ++ process_text number (told process.now)) }
 {
     push_standing(alloc, text, number, process)?;
-    push_counts(alloc, text, process)?;
+    push_counts(alloc, text, process.instructions, process.costs)?;
     push_output(alloc, text, process.output)?;
     Ok(())
 }
@@ -160,17 +184,55 @@ pub fn stop_word(stop: Stop) -> &'static str
     }
 }
 
+/// The report's word for what a total counts.
+fn measure_word(measure: Measure) -> &'static str
+    ensures { result.now ≡ measure_word measure }
+{
+    match measure {
+        Measure::Cycles => "cycles",
+        Measure::Instructions => "instructions",
+    }
+}
+
 /// Appends the line that ends the report.
-pub fn push_total(
+fn push_total(
     alloc: Global,
     text: &mut Vec<u8>,
     total: u64,
+    measure: Measure,
     stop: Stop,
 ) -> Result<(), AllocError>
-    ensures { OnOk result (text.new.items ≡ text.old.items ++ line (codes "total " ∷ decimal total ∷ codes " cycles, " ∷ stop_word stop ∷ [])) }
+    ensures { OnOk result (text.new.items ≡ text.old.items ++ line (codes "total " ∷ decimal total ∷ codes " " ∷ measure_word measure ∷ codes ", " ∷ stop_word stop ∷ [])) }
 {
+    let unit = measure_word(measure);
     let word = stop_word(stop);
-    let end = format!(in alloc; "total {total} cycles, {word}\n")?;
+    let end = format!(in alloc; "total {total} {unit}, {word}\n")?;
     text.extend_from_slice(end.as_bytes())?;
     Ok(())
+}
+
+/// The report's bytes of one process with these costs, which stopped so at this total.
+pub fn report(
+    alloc: Global,
+    process: &Alone,
+    costs: Option<Costs>,
+    total: u64,
+    measure: Measure,
+    stop: Stop,
+) -> Result<Bytes, AllocError>
+    ensures { IfOk result (λ text. text ≡ report (account_with costs process.now ∷ []) total measure stop) }
+{
+    let mut text = Vec::new(alloc);
+    let arch = process.arch();
+    let told = ProcessReport {
+        over: process.over(),
+        pc: arch.pc,
+        vstart: arch.v.vstart(),
+        instructions: process.count(),
+        costs,
+        output: process.output(),
+    };
+    push_process(alloc, &mut text, 0, &told)?;
+    push_total(alloc, &mut text, total, measure, stop)?;
+    Ok(Bytes::of(text))
 }

@@ -6,14 +6,14 @@ ghost use Rattle.vx_system.specs.Runs.{IsAsking, Runs, StepsTo, settings_of, wit
 ghost use Rattle.vx_times.specs.Episode.{episode};
 
 use crate::episode::{run_episode, serve};
-use crate::report::{ProcessReport, push_process, push_total};
+use crate::report::report;
 use crate::timing::{SERVICE, SWITCH};
 use std::alloc::{AllocError, Global};
 use std::marker::Model;
 use vx_alone::{Alone, Hart};
 use vx_base::{Bytes, Options};
 use vx_image::Image;
-use vx_machine::Stop;
+use vx_machine::{Costs, Measure, Stop};
 use vx_times::Pause;
 
 /// A system with one process, and one instruction of it in flight at a time.
@@ -165,21 +165,19 @@ impl System {
 
     /// The report's bytes.
     pub fn report(&self, alloc: Global, stop: Stop) -> Result<Bytes, AllocError>
-        ensures { IfOk result (λ text. text ≡ report (account_of self.now.machine ∷ []) self.now.machine.clock stop) }
+        ensures { IfOk result (λ text. text ≡ report (account_of self.now.machine ∷ []) self.now.machine.clock (Measure.Cycles) stop) }
     {
-        let mut text = Vec::new(alloc);
-        let arch = self.process.arch();
-        let process = ProcessReport {
-            over: self.process.over(),
-            pc: arch.pc,
-            vstart: arch.v.vstart(),
-            instructions: self.process.count(),
+        let costs = Costs {
             cycles: self.cycles,
             misses: 0,
-            output: self.process.output(),
         };
-        push_process(alloc, &mut text, 0, &process)?;
-        push_total(alloc, &mut text, self.clock, stop)?;
-        Ok(Bytes::of(text))
+        report(
+            alloc,
+            &self.process,
+            Some(costs),
+            self.clock,
+            Measure::Cycles,
+            stop,
+        )
     }
 }

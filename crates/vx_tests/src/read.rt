@@ -1,6 +1,7 @@
 use std::alloc::{AllocError, Global};
 use std::test::Fail;
 use vx_read::{Asked, ImageWord, RunWords, first_bad_word_is_one, read, words_ask_for_one_command};
+use vx_words::ImageJob;
 
 /// The words that lie between spaces.
 pub fn words_of(alloc: Global, line: &str) -> Result<Vec<String>, AllocError> {
@@ -15,12 +16,28 @@ pub fn words_of(alloc: Global, line: &str) -> Result<Vec<String>, AllocError> {
 fn words_are_read(rt: HostRuntime) -> Result<(), Fail> {
     let words = words_of(rt.alloc(), "run --budget=70 --lanes 1 --window=1 raw:hi")?;
     let all = RunWords {
+        vlen: None,
         window: Some(1),
         lanes: Some(1),
         budget: Some(70),
         image: ImageWord::Raw("hi"),
     };
-    assert_eq!(rt; read(words.as_slice()), Ok(Asked::Run(all)));
+    assert_eq!(rt;
+        read(words.as_slice()),
+        Ok(Asked::Execute(ImageJob::Run, all))
+    );
+    let words = words_of(rt.alloc(), "alone --vlen=128 --budget 70 e")?;
+    let all = RunWords {
+        vlen: Some(128),
+        window: None,
+        lanes: None,
+        budget: Some(70),
+        image: ImageWord::Elf("e"),
+    };
+    assert_eq!(rt;
+        read(words.as_slice()),
+        Ok(Asked::Execute(ImageJob::Alone, all))
+    );
     let words = words_of(rt.alloc(), "dis raw:f")?;
     assert_eq!(rt; read(words.as_slice()), Ok(Asked::Dis("raw:f")));
     let words = words_of(rt.alloc(), "run --budget=5 --budget 6")?;

@@ -1,8 +1,9 @@
 use crate::alone::HI;
 use std::test::Fail;
+use vx_alone::Alone;
 use vx_base::Options;
 use vx_image::raw_image;
-use vx_system::{Stop, System};
+use vx_system::{Stop, System, report_alone, run_alone};
 
 #[test]
 fn a_system_runs_to_its_end(rt: HostRuntime) -> Result<(), Fail> {
@@ -14,5 +15,20 @@ fn a_system_runs_to_its_end(rt: HostRuntime) -> Result<(), Fail> {
     let report =
         "process 0: exited 0\n  instructions 9 cycles 164 misses 0\n  output 3\nhi\n\ntotal 264 cycles, done\n";
     assert_eq!(rt; system.report(alloc, stop)?.slice(), report.as_bytes());
+    Ok(())
+}
+
+#[test]
+fn a_process_runs_alone_to_its_end(rt: HostRuntime) -> Result<(), Fail> {
+    let alloc = rt.alloc();
+    let mut process = Alone::boot(alloc, &raw_image(alloc, &HI)?, 256)?;
+    let stop = run_alone(&mut process, 9);
+    assert_eq!(rt; stop, Stop::Done);
+    let report =
+        "process 0: exited 0\n  instructions 9\n  output 3\nhi\n\ntotal 9 instructions, done\n";
+    assert_eq!(rt;
+        report_alone(alloc, &process, stop)?.slice(),
+        report.as_bytes()
+    );
     Ok(())
 }

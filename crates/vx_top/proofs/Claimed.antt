@@ -9,7 +9,7 @@ use Rattle.vx_elf.specs.Reading.{elf_fault, segments_in}
 use Rattle.vx_elf.specs.declared.fault.ElfFault.{ElfFault}
 use Rattle.vx_image.specs.Images.{raw_fault, image_fault}
 use Rattle.vx_image.specs.declared.fault.ImageFault.{ImageFault}
-use Rattle.vx_machine.specs.Claim.{Devices, Headline, Claims, HasFault, HasRun, IsNoted, status_of}
+use Rattle.vx_machine.specs.Claim.{Devices, HeadlineOf, Claims, HasFault, HasRun, IsNoted, status_of}
 use Rattle.vx_machine.specs.ImageFiles.{file_fault, image_of_file}
 use Rattle.vx_machine.specs.Machine.{Settings}
 use Rattle.vx_read.specs.Images.{image_of}
@@ -24,8 +24,9 @@ use Rattle.vx_top.specs.declared.refusal.Refusal.{Refusal}
 use Rattle.vx_top.specs.declared.refusal.Refusal.TheVariants as refusal
 use Rattle.vx_top.specs.declared.run.Report.{Report}
 use Rattle.vx_words.specs.Notes.{file_limit, bad_words}
-use Rattle.vx_words.specs.Words.{ImageFile, name_of, AskFor, AskForFile, AskToRun, AreOutside, IsFirstBad}
-use Rattle.vx_words.specs.Words.Command.{Run, Dis}
+use Rattle.vx_words.specs.Words.{ImageFile, name_of, AskFor, AskForFile, AskToExecute, AreOutside, IsFirstBad}
+use Rattle.vx_words.specs.Words.Command.{Execute, Dis}
+use Rattle.vx_words.specs.declared.image_job.ImageJob.{ImageJob}
 use Rattle.vx_words.specs.Words.ImageFile.{Raw, Elf}
 use Rattle.vx_words.specs.declared.file_fault.FileFault.{FileFault}
 use Rattle.vx_words.specs.declared.file_fault.FileFault.TheVariants.{TooLong, BadElf, NoImage}
@@ -46,8 +47,9 @@ Claims-usage words shelf out note note' index answer bad (inr want) =
     rw want.0 (record { shelf = inl (record { files = refl; asked = refl; faults = stays }); out = inl refl; note = want.1 })
 
 -- the words ask for the run that was made
-pub HasRun-from : (words : List (List ℕ)) (run : RunWords) (read : AreRead words run) (options : Options) → AreFor options run → (before after : Devices) (report : Report) (status : Status) → status ≡ status_of report.stop → RanFile (settings_of options) before.shelf after.shelf (image_of run.image) report → HasRun words before after status report.text
-HasRun-from words run read options for before after report status answers ran = record {
+pub HasRun-from : (job : ImageJob) (words : List (List ℕ)) (run : RunWords) (read : AreRead job words run) (options : Options) → AreFor options run → (before after : Devices) (report : Report) (status : Status) → status ≡ status_of report.stop → RanFile job (settings_of options) before.shelf after.shelf (image_of run.image) report → HasRun words before after status report.text
+HasRun-from job words run read options for before after report status answers ran = record {
+  job = job;
   givens = read.givens;
   file = image_of run.image;
   asks = read.asked;
@@ -55,33 +57,33 @@ HasRun-from words run read options for before after report status answers ran = 
   read = ran.read;
   is_image = ran.is_image;
   stop = report.stop;
-  headline = subst (λ (s : Settings). Headline s (image_of_file (image_of run.image) ran.bytes) report.stop report.text) (settled words run read options for) ran.ran;
+  headline = subst (λ (s : Settings). HeadlineOf job s (image_of_file (image_of run.image) ran.bytes) report.stop report.text) (settled job words run read options for) ran.ran;
   answers = answers;
 }
 
 -- the run was made, and its report was told
-pub Claims-report : (words : List (List ℕ)) (run : RunWords) (read : AreRead words run) (options : Options) (for : AreFor options run) (before after : Devices) (report : Report) (answer : Status) → RanFile (settings_of options) before.shelf after.shelf (image_of run.image) report → TellsReport before.out after.out before.note after.note report answer → Claims words before after answer
-Claims-report words run read options for before after report Usage ran told = elim told [ ]
-Claims-report words run read options for before after report ReadFault ran told = elim told [ ]
-Claims-report words run read options for before after report BadSource ran told = elim told [ ]
-Claims-report words run read options for before after report BadImage ran told = elim told [ ]
-Claims-report words run read options for before after report NoMemory ran told = elim told [ ]
-Claims-report words run read options for before after report Done ran told = record {
+pub Claims-report : (job : ImageJob) (words : List (List ℕ)) (run : RunWords) (read : AreRead job words run) (options : Options) (for : AreFor options run) (before after : Devices) (report : Report) (answer : Status) → RanFile job (settings_of options) before.shelf after.shelf (image_of run.image) report → TellsReport before.out after.out before.note after.note report answer → Claims words before after answer
+Claims-report job words run read options for before after report Usage ran told = elim told [ ]
+Claims-report job words run read options for before after report ReadFault ran told = elim told [ ]
+Claims-report job words run read options for before after report BadSource ran told = elim told [ ]
+Claims-report job words run read options for before after report BadImage ran told = elim told [ ]
+Claims-report job words run read options for before after report NoMemory ran told = elim told [ ]
+Claims-report job words run read options for before after report Done ran told = record {
   text = report.text;
-  job = inl (HasRun-from words run read options for before after report Done (sym (ap status_of told.0)) ran);
+  job = inl (HasRun-from job words run read options for before after report Done (sym (ap status_of told.0)) ran);
   out = told.1;
   note = told.2;
 }
-Claims-report words run read options for before after report Spent ran told = record {
+Claims-report job words run read options for before after report Spent ran told = record {
   text = report.text;
-  job = inl (HasRun-from words run read options for before after report Spent (sym (ap status_of told.0)) ran);
+  job = inl (HasRun-from job words run read options for before after report Spent (sym (ap status_of told.0)) ran);
   out = told.1;
   note = told.2;
 }
-Claims-report words run read options for before after report WriteFault ran told = record {
+Claims-report job words run read options for before after report WriteFault ran told = record {
   status = status_of report.stop;
   text = report.text;
-  job = inl (HasRun-from words run read options for before after report (status_of report.stop) refl ran);
+  job = inl (HasRun-from job words run read options for before after report (status_of report.stop) refl ran);
   out = told.0;
   note = told.1;
 }
@@ -107,8 +109,8 @@ Claims-unread words name ask before after refusal.NoMemory answer out unasked to
     rw told.0 (record { shelf = inl unasked; out = inl out; note = told.1 })
 
 -- the words ask for a run of their file
-run_asks : (words : List (List ℕ)) (run : RunWords) (read : AreRead words run) → AskForFile words (name_of (image_of run.image))
-run_asks words run read = (Run read.givens (image_of run.image), read.asked, refl)
+run_asks : (job : ImageJob) (words : List (List ℕ)) (run : RunWords) (read : AreRead job words run) → AskForFile words (name_of (image_of run.image))
+run_asks job words run read = (Execute job read.givens (image_of run.image), read.asked, refl)
 
 -- a file's bytes are never too long
 mapped_to_no_image : (found : Option ImageFault) → option_map NoImage found ≡ Some TooLong → ⊥
@@ -124,7 +126,7 @@ never_too_long (Raw name) bytes is = mapped_to_no_image (raw_fault bytes) is
 never_too_long (Elf name) bytes is = mapped_to_either (elf_fault bytes) (image_fault (segments_in bytes)) is
 
 -- the file was read, and its bytes have a fault
-has_fault : (words : List (List ℕ)) (before after : Devices) (file : ImageFile) (bytes : List ℕ) (fault : FileFault) → AskToRun words file → Reads before.shelf after.shelf (name_of file) file_limit bytes → file_fault file bytes ≡ Some fault → HasFault words before after (name_of file) fault
+has_fault : (words : List (List ℕ)) (before after : Devices) (file : ImageFile) (bytes : List ℕ) (fault : FileFault) → AskToExecute words file → Reads before.shelf after.shelf (name_of file) file_limit bytes → file_fault file bytes ≡ Some fault → HasFault words before after (name_of file) fault
 has_fault words before after file bytes TooLong asks read found = absurd (never_too_long file bytes found)
 has_fault words before after file bytes (BadElf fault) asks read found =
     record { file = file; named = refl; asks = asks; bytes = bytes; read = read; found = found }
@@ -132,27 +134,27 @@ has_fault words before after file bytes (NoImage fault) asks read found =
     record { file = file; named = refl; asks = asks; bytes = bytes; read = read; found = found }
 
 -- the file was read, its bytes are refused, and that was told
-Claims-unloaded : (words : List (List ℕ)) (run : RunWords) (read : AreRead words run) (before after : Devices) (refusal : Refusal) (answer : Status) → after.out ≡ before.out → RefusesRead before.shelf after.shelf (image_of run.image) refusal → TellsRefusal before.note after.note (name_of (image_of run.image)) refusal answer → Claims words before after answer
-Claims-unloaded words run read before after refusal.ReadFault answer out cause told = elim cause.2 [ ]
-Claims-unloaded words run read before after (refusal.BadFile fault) answer out cause (inl told) =
+Claims-unloaded : (job : ImageJob) (words : List (List ℕ)) (run : RunWords) (read : AreRead job words run) (before after : Devices) (refusal : Refusal) (answer : Status) → after.out ≡ before.out → RefusesRead before.shelf after.shelf (image_of run.image) refusal → TellsRefusal before.note after.note (name_of (image_of run.image)) refusal answer → Claims words before after answer
+Claims-unloaded job words run read before after refusal.ReadFault answer out cause told = elim cause.2 [ ]
+Claims-unloaded job words run read before after (refusal.BadFile fault) answer out cause (inl told) =
     rw told.0 (record {
       name = name_of (image_of run.image);
       fault = fault;
-      cause = has_fault words before after (image_of run.image) cause.0 fault (read.givens, read.asked) cause.1 cause.2;
+      cause = has_fault words before after (image_of run.image) cause.0 fault (job, read.givens, read.asked) cause.1 cause.2;
       out = out;
       note = told.1;
     })
-Claims-unloaded words run read before after (refusal.BadFile fault) answer out cause (inr want) =
-    HasNoMemory-asked words (name_of (image_of run.image)) (run_asks words run read) before after cause.1.asks out answer want
-Claims-unloaded words run read before after refusal.NoMemory answer out cause told =
-    HasNoMemory-asked words (name_of (image_of run.image)) (run_asks words run read) before after cause.1.asks out answer told
+Claims-unloaded job words run read before after (refusal.BadFile fault) answer out cause (inr want) =
+    HasNoMemory-asked words (name_of (image_of run.image)) (run_asks job words run read) before after cause.1.asks out answer want
+Claims-unloaded job words run read before after refusal.NoMemory answer out cause told =
+    HasNoMemory-asked words (name_of (image_of run.image)) (run_asks job words run read) before after cause.1.asks out answer told
 
 -- the image gave no report, and that was told
-pub Claims-refusal : (words : List (List ℕ)) (run : RunWords) (read : AreRead words run) (before after : Devices) (refusal : Refusal) (answer : Status) → after.out ≡ before.out → Refuses before.shelf after.shelf (image_of run.image) refusal → TellsRefusal before.note after.note (name_of (image_of run.image)) refusal answer → Claims words before after answer
-Claims-refusal words run read before after refusal answer out (inl cause) told =
-    Claims-unread words (name_of (image_of run.image)) (run_asks words run read) before after refusal answer out cause told
-Claims-refusal words run read before after refusal answer out (inr cause) told =
-    Claims-unloaded words run read before after refusal answer out cause told
+pub Claims-refusal : (job : ImageJob) (words : List (List ℕ)) (run : RunWords) (read : AreRead job words run) (before after : Devices) (refusal : Refusal) (answer : Status) → after.out ≡ before.out → Refuses before.shelf after.shelf (image_of run.image) refusal → TellsRefusal before.note after.note (name_of (image_of run.image)) refusal answer → Claims words before after answer
+Claims-refusal job words run read before after refusal answer out (inl cause) told =
+    Claims-unread words (name_of (image_of run.image)) (run_asks job words run read) before after refusal answer out cause told
+Claims-refusal job words run read before after refusal answer out (inr cause) told =
+    Claims-unloaded job words run read before after refusal answer out cause told
 
 -- the file was read, and its listing was told
 pub Claims-listing : (words : List (List ℕ)) (name : List ℕ) (asks : AskFor words (Dis name)) (before after : Devices) (bytes : List ℕ) (answer : Status) → Reads before.shelf after.shelf name file_limit bytes → TellsListing before.out after.out before.note after.note (listing bytes) answer → Claims words before after answer

@@ -6,10 +6,11 @@ use Rattle.vx_machine.specs.Machine.{settings_for}
 use Rattle.vx_read.specs.Read.{AreRead}
 use Rattle.vx_read.specs.declared.run_words.RunWords.{RunWords}
 use Rattle.vx_system.specs.Runs.{settings_of}
+use Rattle.vx_words.specs.declared.image_job.ImageJob.{ImageJob}
 
 -- the options have the run's numbers, and else their defaults
 pub record AreFor (options : Options) (run : RunWords) : Type 0 where
-  pub vlen : options.vlen ≡ 256
+  pub vlen : options.vlen ≡ unwrap_or run.vlen 256
   pub lanes : options.lanes ≡ unwrap_or run.lanes 1
   pub banks : options.banks ≡ 8
   pub bank_time : options.bank_time ≡ 4
@@ -17,9 +18,10 @@ pub record AreFor (options : Options) (run : RunWords) : Type 0 where
   pub slice : options.slice ≡ 10000
   pub budget : options.budget ≡ unwrap_or run.budget 1000000000
 
-pub settled : (words : List (List ℕ)) (run : RunWords) (read : AreRead words run) (options : Options) → AreFor options run → settings_of options ≡ settings_for read.givens
-settled words run read options for =
+pub settled : (job : ImageJob) (words : List (List ℕ)) (run : RunWords) (read : AreRead job words run) (options : Options) → AreFor options run → settings_of options ≡ settings_for read.givens
+settled job words run read options for =
     let v = for.vlen in
+    let vlen = read.vlen in
     let lanes = read.lanes in
     let window = read.window in
     let budget = read.budget in

@@ -10,7 +10,7 @@ use Rattle.vx_language.specs.declared.fault.Fault.{Fault}
 use Rattle.vx_machine.specs.Claim.{Devices, Claims}
 use Rattle.vx_top.proofs.Claimed.{Claims-unread, HasNoMemory-asked}
 use Rattle.vx_top.specs.Files.{RefusesFile, TellsRefusal}
-use Rattle.vx_top.specs.Sources.{TellsFile, TellsFault, TellsSource, HasFile, HasFault}
+use Rattle.vx_top.specs.Sources.{TellsFile, TellsFault, TellsSource}
 use Rattle.vx_top.specs.declared.refusal.Refusal.{Refusal}
 use Rattle.vx_words.specs.Notes.{file_limit}
 use Rattle.vx_words.specs.Words.{AskFor}

@@ -7,7 +7,7 @@ use Rattle.vx_elf.specs.declared.fault.ElfFault.TheVariants as elf
 use Rattle.vx_image.specs.Pages.{Image}
 use Rattle.vx_image.specs.declared.fault.ImageFault.{ImageFault}
 use Rattle.vx_image.specs.declared.fault.ImageFault.TheVariants as image
-use Rattle.vx_machine.specs.Claim.{Headline, IsNoted}
+use Rattle.vx_machine.specs.Claim.{HeadlineOf, IsNoted}
 use Rattle.vx_machine.specs.ImageFiles.{file_fault, image_of_file}
 use Rattle.vx_machine.specs.Machine.{Settings}
 use Rattle.vx_machine.specs.declared.stop.Stop.TheVariants as stop
@@ -18,6 +18,7 @@ use Rattle.vx_top.specs.declared.run.Report.{Report}
 use Rattle.vx_words.specs.Notes as notes
 use Rattle.vx_words.specs.Words.{ImageFile, name_of}
 use Rattle.vx_words.specs.declared.file_fault.FileFault.TheVariants.{TooLong, BadElf, NoImage}
+use Rattle.vx_words.specs.declared.image_job.ImageJob.{ImageJob}
 use Rattle.vx_words.specs.declared.status.Status.{Status}
 use Rattle.vx_words.specs.declared.status.Status.TheVariants as status
 
@@ -40,16 +41,16 @@ RefusesBytes file bytes ReadFault = ⊥
 RefusesBytes file bytes (BadFile fault) = file_fault file bytes ≡ Some fault
 RefusesBytes file bytes NoMemory = Unit {0}
 
--- the image ran under the settings and stopped so, with this report
-abbrev pub Ran : Settings → Image → Report → Type 0
-Ran settings made report = Headline settings made report.stop report.text
+-- the job was done with the image under the settings, and stopped so, with this report
+abbrev pub Ran : ImageJob → Settings → Image → Report → Type 0
+Ran job settings made report = HeadlineOf job settings made report.stop report.text
 
--- the image's file was read, it gives an image, and it ran, with this report
-pub record RanFile (settings : Settings) (before after : ShelfState) (file : ImageFile) (report : Report) : Type 0 where
+-- the image's file was read, it gives an image, and the job was done with it, with this report
+pub record RanFile (job : ImageJob) (settings : Settings) (before after : ShelfState) (file : ImageFile) (report : Report) : Type 0 where
   pub bytes : List ℕ
   pub read : Reads before after (name_of file) notes.file_limit bytes
   pub is_image : file_fault file bytes ≡ None
-  pub ran : Ran settings (image_of_file file bytes) report
+  pub ran : Ran job settings (image_of_file file bytes) report
 
 -- the file of that name can't be read for this
 abbrev pub RefusesFile : ShelfState → ShelfState → List ℕ → Refusal → Type 0

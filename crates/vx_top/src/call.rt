@@ -13,21 +13,22 @@ use crate::tell::{tell, tell_listing, tell_refusal, tell_report};
 use std::alloc::Global;
 use vx_base::{Shelf, Sink};
 use vx_read::{Asked, RunWords, read};
-use vx_words::Status;
+use vx_words::{ImageJob, Status};
 
-/// Runs the image that words ask for. What the answer says holds for whatever words ask for it.
-fn run<F: Shelf, K: Sink, N: Sink>(
+/// Does the job with the image that words ask for. What the answer says holds for whatever words ask for it.
+fn execute<F: Shelf, K: Sink, N: Sink>(
     alloc: Global,
+    job: ImageJob,
     run: &RunWords,
     shelf: &mut F,
     out: &mut K,
     note: &mut N,
 ) -> Status
     requires in_range { AreInRange run.now }
-    ensures { (words : List (List ℕ)) → AreRead words run.now → Claims words (record { shelf = F.state shelf.old; out = K.state out.old; note = N.state note.old }) (record { shelf = F.state shelf.new; out = K.state out.new; note = N.state note.new }) result }
+    ensures { (words : List (List ℕ)) → AreRead job words run.now → Claims words (record { shelf = F.state shelf.old; out = K.state out.old; note = N.state note.old }) (record { shelf = F.state shelf.new; out = K.state out.new; note = N.state note.new }) result }
 {
     let options = options_for(run);
-    match run_file(alloc, run.image, &options, shelf) {
+    match run_file(alloc, job, run.image, &options, shelf) {
         Ok(report) => tell_report(&report, out, note),
         Err(refusal) => tell_refusal(alloc, name_of(run.image), refusal, note),
     }
@@ -49,8 +50,8 @@ fn dis<F: Shelf, K: Sink, N: Sink>(
     }
 }
 
-/// All that the program does: reads the words, runs the image, lists the file or assembles the source that they name, writes
-/// the report, the listing or the ELF file on `out`, and answers a status, with its note on `note`.
+/// All that the program does: reads the words, runs the image, on the machine or alone, lists the file or assembles the source
+/// that they name, writes the report, the listing or the ELF file on `out`, and answers a status, with its note on `note`.
 pub fn vexec<F: Shelf, K: Sink, N: Sink>(
     alloc: Global,
     words: &[String],
@@ -61,7 +62,7 @@ pub fn vexec<F: Shelf, K: Sink, N: Sink>(
     ensures { Claims (map string_bytes words.now) (record { shelf = F.state shelf.old; out = K.state out.old; note = N.state note.old }) (record { shelf = F.state shelf.new; out = K.state out.new; note = N.state note.new }) result }
 {
     match read(words) {
-        Ok(Asked::Run(asked)) => run(alloc, &asked, shelf, out, note),
+        Ok(Asked::Execute(job, asked)) => execute(alloc, job, &asked, shelf, out, note),
         Ok(Asked::Dis(name)) => dis(alloc, name, shelf, out, note),
         Ok(Asked::Asm(name)) => asm(alloc, name, shelf, out, note),
         Err(index) => tell(note, Status::Usage, notes::bad_words(alloc, index)),

@@ -1,24 +1,48 @@
 -- The words of the command line and what they ask for; the program's name isn't among them. This project's own.
 use Rattle.std.specs.Prelude.{◌≡◌, ◌≢◌, ℕ, ◌+◌, ◌^◌, ◌<◌, ◌≤◌, Bool, true, false, ◌⊎◌, List, [], ◌∷◌, ◌++◌, length, take, Option, Some, None, if◌then◌else◌, codes, decimal}
+use Rattle.vx_base.specs.Options.{is_register_length}
+use Rattle.vx_words.specs.declared.image_job.ImageJob.{ImageJob}
+use Rattle.vx_words.specs.declared.image_job.ImageJob.TheVariants.{Run, Alone}
 
 -- the options, each of which takes a number
 pub data OptionName : Type 0 where
+  Vlen : OptionName
   Window : OptionName
   Lanes : OptionName
   Budget : OptionName
 
--- the word of an option, and the least and the greatest number that it takes
+-- the word of an option, the least and the greatest number that it takes, and which of those between it takes
 pub record OptionRow : Type 0 where
   pub word : List ℕ
   pub least : ℕ
   pub greatest : ℕ
+  pub takes : ℕ → Bool
+
+-- each number
+abbrev pub every : ℕ → Bool
+every number = true
 
 abbrev pub row_of : OptionName → OptionRow
-row_of Window = record { word = codes "--window"; least = 1; greatest = 1 }
-row_of Lanes = record { word = codes "--lanes"; least = 1; greatest = 1 }
-row_of Budget = record { word = codes "--budget"; least = 1; greatest = 2 ^ 40 }
+row_of Vlen = record { word = codes "--vlen"; least = 128; greatest = 2048; takes = is_register_length }
+row_of Window = record { word = codes "--window"; least = 1; greatest = 1; takes = every }
+row_of Lanes = record { word = codes "--lanes"; least = 1; greatest = 1; takes = every }
+row_of Budget = record { word = codes "--budget"; least = 1; greatest = 2 ^ 40; takes = every }
+
+-- the word of what is done with an image
+abbrev pub job_word : ImageJob → List ℕ
+job_word Run = codes "run"
+job_word Alone = codes "alone"
+
+-- whether the option may be given for it
+abbrev pub is_option_of : ImageJob → OptionName → Bool
+is_option_of Run Vlen = false
+is_option_of Run other = true
+is_option_of Alone Vlen = true
+is_option_of Alone Budget = true
+is_option_of Alone other = false
 
 abbrev pub is_same : OptionName → OptionName → Bool
+is_same Vlen Vlen = true
 is_same Window Window = true
 is_same Lanes Lanes = true
 is_same Budget Budget = true
@@ -34,9 +58,16 @@ abbrev pub given_number : OptionName → List Given → Option ℕ
 given_number option [] = None
 given_number option (given ∷ givens) = if is_same given.option option then Some given.number else given_number option givens
 
--- the number is in the option's range
+-- the number is one that the option takes
 abbrev pub IsInRange : Given → Type 0
-IsInRange given = ((row_of given.option).least ≤ given.number) × (given.number ≤ (row_of given.option).greatest)
+IsInRange given =
+    ((row_of given.option).least ≤ given.number)
+    × (given.number ≤ (row_of given.option).greatest)
+    × ((row_of given.option).takes given.number ≡ true)
+
+-- the option may be given for the job, and takes the number
+abbrev pub IsFor : ImageJob → Given → Type 0
+IsFor job given = (is_option_of job given.option ≡ true) × IsInRange given
 
 -- the words are the option and its number: two words, or one. A number is its decimal digits, without a leading zero.
 abbrev pub Spell : List (List ℕ) → Given → Type 0
@@ -44,17 +75,17 @@ Spell words given =
     (words ≡ (row_of given.option).word ∷ decimal given.number ∷ [])
     ⊎ (words ≡ ((row_of given.option).word ++ codes "=" ++ decimal given.number) ∷ [])
 
--- the words are options with their numbers, one after another, and no option is given twice
-abbrev pub SpellAll : List (List ℕ) → List Given → Type 0
-SpellAll words [] = words ≡ []
-SpellAll words (given ∷ givens) =
+-- the words are options of the job with their numbers, one after another, and no option is given twice
+abbrev pub SpellAll : ImageJob → List (List ℕ) → List Given → Type 0
+SpellAll job words [] = words ≡ []
+SpellAll job words (given ∷ givens) =
     (option : List (List ℕ))
     × (rest : List (List ℕ))
     × (words ≡ option ++ rest)
     × Spell option given
-    × IsInRange given
+    × IsFor job given
     × (given_number given.option givens ≡ None)
-    × SpellAll rest givens
+    × SpellAll job rest givens
 
 -- the word is a file: it isn't empty, and doesn't begin with `-`
 abbrev pub IsFile : List ℕ → Type 0
@@ -81,8 +112,8 @@ IsImage word (Raw name) = IsRawImage word name
 IsImage word (Elf name) = (word ≡ name) × IsFile word × ((raw : List ℕ) → IsRawImage word raw → ⊥)
 
 pub data Command : Type 0 where
-  -- run the image under these options
-  Run : (givens : List Given) (image : ImageFile) → Command
+  -- do the job with the image, under these options
+  Execute : (job : ImageJob) (givens : List Given) (image : ImageFile) → Command
   -- list the instructions of the file of this name
   Dis : (name : List ℕ) → Command
   -- assemble the source in the file of this name
@@ -90,17 +121,17 @@ pub data Command : Type 0 where
 
 -- the name of the file that a command is on
 abbrev pub file_of : Command → List ℕ
-file_of (Run givens image) = name_of image
+file_of (Execute job givens image) = name_of image
 file_of (Dis name) = name
 file_of (Asm name) = name
 
 -- the words ask for the command
 abbrev pub AskFor : List (List ℕ) → Command → Type 0
-AskFor words (Run givens image) =
+AskFor words (Execute job givens image) =
     (options : List (List ℕ))
     × (word : List ℕ)
-    × (words ≡ codes "run" ∷ (options ++ word ∷ []))
-    × SpellAll options givens
+    × (words ≡ job_word job ∷ (options ++ word ∷ []))
+    × SpellAll job options givens
     × IsImage word image
 AskFor words (Dis name) = (words ≡ codes "dis" ∷ name ∷ []) × IsFile name
 AskFor words (Asm name) = (words ≡ codes "asm" ∷ name ∷ []) × IsFile name
@@ -109,9 +140,9 @@ AskFor words (Asm name) = (words ≡ codes "asm" ∷ name ∷ []) × IsFile name
 abbrev pub AskForFile : List (List ℕ) → List ℕ → Type 0
 AskForFile words name = (command : Command) × AskFor words command × (file_of command ≡ name)
 
--- the words ask to run the image
-abbrev pub AskToRun : List (List ℕ) → ImageFile → Type 0
-AskToRun words image = (givens : List Given) × AskFor words (Run givens image)
+-- the words ask for a job with the image
+abbrev pub AskToExecute : List (List ℕ) → ImageFile → Type 0
+AskToExecute words image = (job : ImageJob) × (givens : List Given) × AskFor words (Execute job givens image)
 
 -- the words ask for no command
 abbrev pub AreOutside : List (List ℕ) → Type 0

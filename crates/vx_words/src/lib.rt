@@ -5,7 +5,9 @@
 #![tactic(auto)]
 
 mod file_fault;
+mod image_job;
 mod status;
 
 pub use file_fault::FileFault;
+pub use image_job::ImageJob;
 pub use status::Status;

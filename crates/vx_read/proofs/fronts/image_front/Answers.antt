@@ -13,4 +13,4 @@ returns-then-is_empty c = λ word is.
 pub returns-else-is_empty : goal.returns-else-is_empty
 returns-else-is_empty c = λ word is.
     let some : 0 < length c.args.rest.now = grind (arith, nat_tests) in
-    bad_behind c.args.numbers.now word (image_of c.args.image) (map string_bytes c.args.rest.now) is (rw length-map some)
+    bad_behind c.args.job c.args.numbers.now word (image_of c.args.image) (map string_bytes c.args.rest.now) is (rw length-map some)

@@ -1,7 +1,7 @@
 use Rattle.std.proofs.Common.{subst}
 use Rattle.vx_system.specs.Runs.{SystemState, Runs, settings_of}
 use Rattle.vx_top.proofs.Headlined.{Headline-from}
-use Rattle.vx_top.proofs.run.run_image.Goals as goal
+use Rattle.vx_top.proofs.run.run_machine.Goals as goal
 
 pub returns : goal.returns
 returns c =

@@ -1,0 +1,40 @@
+ghost use Rattle.std.specs.Prelude.{◌≡◌, ◌<◌, ◌^◌, ◌∷◌, [], IfOk, None};
+ghost use Rattle.vx_machine.specs.Accounts.{account_alone};
+ghost use Rattle.vx_machine.specs.Report.{report};
+ghost use Rattle.vx_system.specs.Solo.{RunsAlone};
+
+use crate::report::report;
+use std::alloc::{AllocError, Global};
+use vx_alone::Alone;
+use vx_base::Bytes;
+use vx_machine::{Measure, Stop};
+
+/// Steps a process alone until it has ended, or has completed so many instructions.
+pub fn run_alone(process: &mut Alone, budget: u64) -> Stop
+    requires unbegun { process.old.count ≡ 0 }
+    requires running { process.old.over ≡ None }
+    requires budget { budget < 2 ^ 63 }
+    ensures { RunsAlone budget process.old process.new result }
+{
+    for _ in 0..budget {
+        process.step();
+        if process.over().is_some() {
+            return Stop::Done;
+        }
+    }
+    Stop::Spent
+}
+
+/// The report's bytes of a process alone that stopped so.
+pub fn report_alone(alloc: Global, process: &Alone, stop: Stop) -> Result<Bytes, AllocError>
+    ensures { IfOk result (λ text. text ≡ report (account_alone process.now ∷ []) process.now.count (Measure.Instructions) stop) }
+{
+    report(
+        alloc,
+        process,
+        None,
+        process.count(),
+        Measure::Instructions,
+        stop,
+    )
+}
