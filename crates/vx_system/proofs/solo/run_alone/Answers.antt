@@ -1,4 +1,4 @@
-use Rattle.std.proofs.Common.{◌≡◌, true, false, rules, arith}
+use Rattle.std.proofs.Common.{◌≡◌, true, false, arith}
 use Rattle.std.specs.Prelude.{is_some}
 use Rattle.vx_system.proofs.UnderWay.{IsUnderWay-start, IsUnderWay-more, RunsAlone-done, RunsAlone-spent}
 use Rattle.vx_system.proofs.solo.run_alone.Goals as goal
