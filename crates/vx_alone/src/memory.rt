@@ -3,6 +3,7 @@ ghost use Rattle.vx_base.specs.Numbers.{from_little_endian, little_endian};
 ghost use Rattle.vx_base.specs.declared.machine.Want.TheVariants as want;
 ghost use Rattle.vx_flat.specs.Memory.{bytes_at, all_permit, put_bytes};
 ghost use Rattle.vx_flat.specs.Service.{is_readable};
+ghost use Rattle.vx_image.specs.Pages.{permits, is_canonical};
 ghost use Rattle.vx_image.specs.Kept.{pages_of, IsRising, IsPlaceOf, IsKept, Lacks};
 ghost use Rattle.vx_alone.specs.Granted.{IsGrantedAt};
 ghost use Rattle.vx_scalar.specs.Operands.{is_access_width};
@@ -30,7 +31,7 @@ pub struct Memory {
 }
 
 impl Model for Memory {
-    ghost use Rattle.vx_image.specs.Pages.{Memory as FlatMemory, permits, is_canonical};
+    ghost use Rattle.vx_image.specs.Pages.{Memory as FlatMemory};
     ghost use Rattle.vx_image.specs.Kept.{pages_of, IsKept};
 
     ghost Value = { FlatMemory };
