@@ -174,6 +174,30 @@ reads_vlenb = 0xc22022f3 ∷ 0x00000073 ∷ []
 abbrev pub configures : List ℕ
 configures = 0x01a5f2d7 ∷ 0x00000073 ∷ []
 
+-- div a1, a0, a0; addi a2, a1, 0; mul a3, a0, a0; ecall
+abbrev pub divides : List ℕ
+divides = 0x02a545b3 ∷ 0x00058613 ∷ 0x02a506b3 ∷ 0x00000073 ∷ []
+
+-- vle64.v v8, (a0); vadd.vv v12, v8, v8; ecall
+abbrev pub chains : List ℕ
+chains = 0x02057407 ∷ 0x02840657 ∷ 0x00000073 ∷ []
+
+-- vle64.v v8, (a0), v0.t; ecall
+abbrev pub loads_masked : List ℕ
+loads_masked = 0x00057407 ∷ 0x00000073 ∷ []
+
+-- ld a1, 0(a2); vsuxei64.v v8, (a0), v12; ecall
+abbrev pub scatters : List ℕ
+scatters = 0x00063583 ∷ 0x06c57427 ∷ 0x00000073 ∷ []
+
+-- jalr zero, 0(a0)
+abbrev pub jumps_by : List ℕ
+jumps_by = 0x00050067 ∷ []
+
+-- vdivu.vv v20, v24, v16; jal zero, 0x7ffc
+abbrev pub divides_and_jumps : List ℕ
+divides_and_jumps = 0x83882a57 ∷ 0x7fd0706f ∷ []
+
 -- ---- what they come to
 
 -- the program that writes, with one instruction in flight, first from cycle 100 on, and behind the service from cycle 203 on: 52 and
@@ -364,6 +388,79 @@ pub record StopsHold : Type 0 where
   pub reads_alone : changed_in (episode having 1000 (process no_vectors 0 0 0 [] reads_vlenb)) ≡ Some false
   pub changes : changed_in (episode having 1000 (process no_vectors 0 64 0 [] configures)) ≡ Some true
 
+-- a division, an addition that waits for it, and a multiplication; beats that wait for the words that are loaded
+abbrev pub divider : Process
+divider = process no_vectors 6 0 0 [] divides
+
+abbrev pub chainer : Process
+chainer = process (eight_elements 0) 0x11000 0 0 (zero_page 17 ∷ []) chains
+
+pub record ChainsHold : Type 0 where
+  pub divisions : issue_cycles (instructions (started (overlapped 1 8 4) (code_page ∷ []) 0) 1000 divider.state) ≡ 17 ∷ 37 ∷ 38 ∷ 43 ∷ []
+  pub divisions_retire : retire_cycles (instructions (started (overlapped 1 8 4) (code_page ∷ []) 0) 1000 divider.state) ≡ 38 ∷ 39 ∷ 42 ∷ []
+  pub beats : beat_cycles (instructions trimming 1000 chainer.state) ≡ [] ∷ (39 ∷ 43 ∷ []) ∷ [] ∷ []
+  pub retires : retire_cycles (instructions trimming 1000 chainer.state) ≡ 44 ∷ 46 ∷ []
+  pub ends : figures (episode trimming 1000 chainer) ≡ 47 ∷ 67 ∷ 2 ∷ 3 ∷ []
+
+-- a load of two elements, of which the mask leaves out the first, with one element a batch: that is a batch without an access
+abbrev pub masked_loader : Process
+masked_loader = process (record two_elements { words = 2 ∷ replicate 63 0 }) 0x11000 0 0 (zero_page 17 ∷ []) loads_masked
+
+pub record MasksHold : Type 0 where
+  pub starts : start_cycles (instructions storing 1000 masked_loader.state) ≡ (18 ∷ 19 ∷ []) ∷ [] ∷ []
+  pub serves : serve_cycles (instructions storing 1000 masked_loader.state) ≡ (36 ∷ []) ∷ [] ∷ []
+  -- a slice that is over at 18 ends with it, and vstart is 1 then; one that is over at 19, with the retire
+  pub cut : figures (episode storing 18 masked_loader) ≡ 18 ∷ 38 ∷ 0 ∷ 1 ∷ []
+  pub cut_within : vector_state_of (episode storing 18 masked_loader) ≡ Some (record two_elements { words = 2 ∷ replicate 63 0; vstart = 1 })
+  pub cut_behind : figures (episode storing 19 masked_loader) ≡ 41 ∷ 61 ∷ 1 ∷ 2 ∷ []
+
+-- a store of four elements, two on page 17, one on page 18 and one on page 19, of which the last two can't be written. The load
+-- before it has filled the cache with page 19, so element 3 is known to fail first; but element 2 is the lowest that fails
+abbrev pub scatterer : Process
+scatterer = process
+    (record (eight_elements 0) { vl = 4; words = replicate 24 0 ++ (0 ∷ 8 ∷ 0x1000 ∷ 0x2000 ∷ replicate 36 0) })
+    0x11000 0 0x13000
+    (zero_page 17 ∷ record (zero_page 18) { permissions = 4 } ∷ record (zero_page 19) { permissions = 4 } ∷ []) scatters
+
+abbrev pub scattering : Start
+scattering = started (overlapped 4 8 1) (code_page ∷ data_page ∷ placed_page 18 4 (Present 7 false false) ∷ placed_page 19 4 (Present 8 false false) ∷ []) 0
+
+pub record ScattersHold : Type 0 where
+  pub serves : serve_cycles (instructions scattering 1000 scatterer.state) ≡ (35 ∷ []) ∷ (59 ∷ 59 ∷ []) ∷ []
+  pub ends : figures (episode scattering 1000 scatterer) ≡ 74 ∷ 94 ∷ 1 ∷ 2 ∷ []
+  pub faults_with : ended_of (episode scattering 1000 scatterer) ≡ Some (ended.Faulted (record { cause = 15; tval = 0x12000; vstart = 2 }))
+  pub residency : residency_of (episode scattering 1000 scatterer)
+      ≡ Some (placed_page 16 5 (Present 5 true false) ∷ placed_page 17 6 (Present 6 true true) ∷ placed_page 18 4 (Present 7 false false) ∷ placed_page 19 4 (Present 8 true false) ∷ [])
+
+-- a jump to an address that isn't canonical: nothing is walked or read there. One to a page that is away: it is walked
+abbrev pub wild_jumper : Process
+wild_jumper = process no_vectors (2 ^ 63) 0 0 [] jumps_by
+
+-- a jump to page 24 behind a division: a slice that is over at 30 ends with the division's retire at 35, and the walk for the fetch
+-- behind the jump, from 20 to 36, has read its entries, but not set A; one that is over at 36 has it set, and the fetch made
+abbrev pub two_code_pages : Place → Residency
+two_code_pages place = code_page ∷ placed_page 24 5 place ∷ []
+
+abbrev pub dividing : Start
+dividing = started (overlapped 8 8 4) (two_code_pages (Present 7 false false)) 0
+
+abbrev pub dividing_jumper : Process
+dividing_jumper = process (eight_elements 0) 0 0 0 (record { number = 24; permissions = 5; bytes = flat_map (little_endian 4) jumps_back } ∷ []) divides_and_jumps
+
+pub record JumpsHold : Type 0 where
+  pub wild : figures (episode having 1000 wild_jumper) ≡ 20 ∷ 40 ∷ 1 ∷ 1 ∷ []
+  pub wild_faults : ended_of (episode having 1000 wild_jumper) ≡ Some (ended.Faulted (record { cause = 12; tval = 2 ^ 63; vstart = 0 }))
+  pub wild_log : log_cycles (episode having 1000 wild_jumper) ≡ 5 ∷ 9 ∷ 13 ∷ 17 ∷ 17 ∷ []
+  pub away : figures (episode (started sequential (two_code_pages Away) 0) 1000 far_jumper) ≡ 35 ∷ 55 ∷ 1 ∷ 1 ∷ []
+  pub away_at : ended_of (episode (started sequential (two_code_pages Away) 0) 1000 far_jumper) ≡ Some (ended.Away 0x18000 Fetch)
+  pub away_log : log_cycles (episode (started sequential (two_code_pages Away) 0) 1000 far_jumper) ≡ 5 ∷ 9 ∷ 13 ∷ 17 ∷ 17 ∷ 23 ∷ 27 ∷ 31 ∷ []
+  pub cut : figures (episode dividing 30 dividing_jumper) ≡ 35 ∷ 55 ∷ 1 ∷ 1 ∷ []
+  pub cut_log : log_cycles (episode dividing 30 dividing_jumper) ≡ 5 ∷ 9 ∷ 13 ∷ 17 ∷ 17 ∷ 18 ∷ 24 ∷ 28 ∷ 32 ∷ []
+  pub cut_residency : residency_of (episode dividing 30 dividing_jumper) ≡ Some (placed_page 16 5 (Present 5 true false) ∷ placed_page 24 5 (Present 7 false false) ∷ [])
+  pub walked : figures (episode dividing 36 dividing_jumper) ≡ 36 ∷ 56 ∷ 2 ∷ 2 ∷ []
+  pub walked_log : log_cycles (episode dividing 36 dividing_jumper) ≡ 5 ∷ 9 ∷ 13 ∷ 17 ∷ 17 ∷ 18 ∷ 24 ∷ 28 ∷ 32 ∷ 36 ∷ 36 ∷ []
+  pub walked_residency : residency_of (episode dividing 36 dividing_jumper) ≡ Some (placed_page 16 5 (Present 5 true false) ∷ placed_page 24 5 (Present 7 true false) ∷ [])
+
 pub record ExamplesHold : Type 0 where
   pub hi : HiHolds
   pub calculates : CalculatesHolds
@@ -374,3 +471,7 @@ pub record ExamplesHold : Type 0 where
   pub in_flight : InFlightHold
   pub waits : WaitsHold
   pub stops : StopsHold
+  pub chains : ChainsHold
+  pub masks : MasksHold
+  pub scatters : ScattersHold
+  pub jumps : JumpsHold

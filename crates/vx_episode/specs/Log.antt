@@ -17,7 +17,7 @@ use Rattle.vx_base.specs.declared.machine.Want.TheVariants.{Fetch}
 use Rattle.vx_episode.specs.Batches.{word_in}
 use Rattle.vx_episode.specs.Cycles.{cycles_of}
 use Rattle.vx_episode.specs.Footprint.{Access}
-use Rattle.vx_episode.specs.History.{History, Entry, Walk, AccessTimes, fetch_walks, data_walks, accesses_of, after_walks}
+use Rattle.vx_episode.specs.History.{History, Entry, Walk, AccessTimes, fetch_walks, data_walks, accesses_of, queued_by, after_walks}
 use Rattle.vx_episode.specs.Organisation.{Start}
 use Rattle.vx_episode.specs.Ordered.{ordered}
 
@@ -87,7 +87,7 @@ data_access memory a (Some value) =
 -- those that were queued by a cycle
 abbrev pub data_accesses : (last : ℕ) → Entry → List cells.Access
 data_accesses last e =
-    map (λ (a : AccessTimes). data_access e.state.memory a a.access.stored) (filter (λ (a : AccessTimes). nat_le a.queued last) (accesses_of e.batches))
+    map (λ (a : AccessTimes). data_access e.state.memory a a.access.stored) (queued_by last (accesses_of e.batches))
 
 -- ---- the log
 

@@ -10,7 +10,7 @@ use Rattle.vx_vector.specs.Batches.{longest_run}
 use Rattle.vx_packed.specs.Joined.{some_below}
 use Rattle.vx_episode.specs.Footprint.{footprint}
 use Rattle.vx_episode.specs.Episode.{run_on, fetched_on, episode}
-use Rattle.vx_episode.specs.Examples.{HiHolds, CalculatesHolds, LoadsHold, StoresHold, AcrossHolds, TrimsHold, InFlightHold, WaitsHold, StopsHold}
+use Rattle.vx_episode.specs.Examples.{HiHolds, CalculatesHolds, LoadsHold, StoresHold, AcrossHolds, TrimsHold, InFlightHold, WaitsHold, StopsHold, ChainsHold, MasksHold, ScattersHold, JumpsHold}
 use Rattle.vx_episode.specs.Show.{is_pending}
 use Rattle.vx_episode.proofs.laws.examples_hold.Goals as goal
 
@@ -50,5 +50,21 @@ stops : StopsHold
 unfolding operations upcoming performed page_map after_walk walk table_walk entry_in merged after_elements longest_run some_below footprint run_on fetched_on episode
 stops = record { code = refl; code_is = refl; lacks = refl; lacks_vectors = refl; reads = refl; reads_alone = refl; changes = refl }
 
+chains : ChainsHold
+unfolding operations upcoming performed page_map after_walk walk table_walk entry_in merged after_elements longest_run some_below footprint run_on fetched_on episode
+chains = record { divisions = refl; divisions_retire = refl; beats = refl; retires = refl; ends = refl }
+
+masks : MasksHold
+unfolding operations upcoming performed page_map after_walk walk table_walk entry_in merged after_elements longest_run some_below footprint run_on fetched_on episode
+masks = record { starts = refl; serves = refl; cut = refl; cut_within = refl; cut_behind = refl }
+
+scatters : ScattersHold
+unfolding operations upcoming performed page_map after_walk walk table_walk entry_in merged after_elements longest_run some_below footprint run_on fetched_on episode
+scatters = record { serves = refl; ends = refl; faults_with = refl; residency = refl }
+
+jumps : JumpsHold
+unfolding operations upcoming performed page_map after_walk walk table_walk entry_in merged after_elements longest_run some_below footprint run_on fetched_on episode
+jumps = record { wild = refl; wild_faults = refl; wild_log = refl; away = refl; away_at = refl; away_log = refl; cut = refl; cut_log = refl; cut_residency = refl; walked = refl; walked_log = refl; walked_residency = refl }
+
 pub returns : goal.returns
-returns c = record { hi = hi; calculates = calculates; loads = loads; stores = stores; across = across; trims = trims; in_flight = in_flight; waits = waits; stops = stops }
+returns c = record { hi = hi; calculates = calculates; loads = loads; stores = stores; across = across; trims = trims; in_flight = in_flight; waits = waits; stops = stops; chains = chains; masks = masks; scatters = scatters; jumps = jumps }
