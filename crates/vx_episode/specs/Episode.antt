@@ -109,7 +109,7 @@ ended_at Completes = Slice
 ended_at (Reaches element) = Slice
 ended_at (Stops why from element) = why
 
--- the process with the elements below k of its next instruction done
+-- the process with the elements below k of its next instruction done; of one that isn't a vector load or store there are none
 abbrev pub within : (k : ℕ) → Process → Process
 within k p = record p { state = unwrap_or (prefix_at k p.state) p.state }
 

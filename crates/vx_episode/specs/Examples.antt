@@ -1,6 +1,6 @@
 -- Small programs and when what they do comes, on which the definitions are computed. This project's own; the cycles were worked out
 -- by hand from the equations, as docs/TIMES.md shows.
-use Rattle.std.specs.Prelude.{◌≡◌, ℕ, ◌^◌, ◌-◌, Bool, true, false, List, [], ◌∷◌, ◌++◌, map, flat_map, replicate, reverse, Option, Some, None, option_map}
+use Rattle.std.specs.Prelude.{◌≡◌, ℕ, ◌^◌, ◌-◌, Bool, true, false, List, [], ◌∷◌, ◌++◌, map, flat_map, filter, replicate, reverse, Option, Some, None, option_map}
 use Rattle.std.specs.Option.{option_map_or}
 use Rattle.vx_base.specs.Numbers.{little_endian}
 use Rattle.vx_cells.specs.declared.access.Access as cells
@@ -197,6 +197,18 @@ jumps_by = 0x00050067 ∷ []
 -- vdivu.vv v20, v24, v16; jal zero, 0x7ffc
 abbrev pub divides_and_jumps : List ℕ
 divides_and_jumps = 0x83882a57 ∷ 0x7fd0706f ∷ []
+
+-- vlse64.v v12, (a0), a1; ecall
+abbrev pub loads_apart : List ℕ
+loads_apart = 0x0ab57607 ∷ 0x00000073 ∷ []
+
+-- vlseg4e64ff.v v8, (a0); vmv.x.s a2, v8; ecall
+abbrev pub loads_fields : List ℕ
+loads_fields = 0x63057407 ∷ 0x42802657 ∷ 0x00000073 ∷ []
+
+-- ld a1, 0(a0); jal zero, 0x7ffc
+abbrev pub loads_and_jumps : List ℕ
+loads_and_jumps = 0x00053583 ∷ 0x7fd0706f ∷ []
 
 -- ---- what they come to
 
@@ -461,6 +473,46 @@ pub record JumpsHold : Type 0 where
   pub walked_log : log_cycles (episode dividing 36 dividing_jumper) ≡ 5 ∷ 9 ∷ 13 ∷ 17 ∷ 17 ∷ 18 ∷ 24 ∷ 28 ∷ 32 ∷ 36 ∷ 36 ∷ []
   pub walked_residency : residency_of (episode dividing 36 dividing_jumper) ≡ Some (placed_page 16 5 (Present 5 true false) ∷ placed_page 24 5 (Present 7 true false) ∷ [])
 
+-- eight elements on one bank, two a batch: the third batch waits for the commit of the first, and the fourth for that of the second
+abbrev pub apart : Start
+apart = started (overlapped 2 4 1) (code_page ∷ data_page ∷ []) 0
+
+abbrev pub apart_loader : Process
+apart_loader = process (eight_elements 0) 0x11000 32 0 (zero_page 17 ∷ []) loads_apart
+
+-- two elements of four fields on one bank: the last field of element 1 lies on a page that isn't mapped, so vl becomes 1. The three
+-- fields before it were queued by then, and are waited for
+abbrev pub fields : Start
+fields = started (overlapped 8 1 4) (code_page ∷ data_page ∷ []) 0
+
+abbrev pub fields_loader : Process
+fields_loader = process (record two_elements { vtype = 0x19 }) 0x11fc8 0 0 (last_page ∷ []) loads_fields
+
+pub record BatchesHold : Type 0 where
+  pub apart_starts : start_cycles (instructions apart 1000 apart_loader.state) ≡ (18 ∷ 35 ∷ 44 ∷ 52 ∷ []) ∷ [] ∷ []
+  pub apart_serves : serve_cycles (instructions apart 1000 apart_loader.state) ≡ (35 ∷ 39 ∷ 43 ∷ 47 ∷ 51 ∷ 55 ∷ 59 ∷ 63 ∷ []) ∷ [] ∷ []
+  pub apart_ends : figures (episode apart 1000 apart_loader) ≡ 69 ∷ 89 ∷ 1 ∷ 4 ∷ []
+  pub apart_cut : figures (episode apart 44 apart_loader) ≡ 51 ∷ 79 ∷ 0 ∷ 2 ∷ []
+  pub apart_within : vector_state_of (episode apart 44 apart_loader) ≡ Some (eight_elements 4)
+  pub fields_serves : serve_cycles (instructions fields 1000 fields_loader.state) ≡ (35 ∷ 39 ∷ 43 ∷ 47 ∷ 51 ∷ 55 ∷ 59 ∷ []) ∷ [] ∷ [] ∷ []
+  pub fields_issues : issue_cycles (instructions fields 1000 fields_loader.state) ≡ 17 ∷ 51 ∷ 66 ∷ []
+  pub fields_beats : beat_cycles (instructions fields 1000 fields_loader.state) ≡ [] ∷ (55 ∷ []) ∷ [] ∷ []
+  pub fields_retire : retire_cycles (instructions fields 1000 fields_loader.state) ≡ 64 ∷ 65 ∷ []
+  pub fields_end : figures (episode fields 1000 fields_loader) ≡ 66 ∷ 86 ∷ 2 ∷ 2 ∷ []
+
+-- a load from page 24, and a jump there: both walk, and neither has written A before the other reads the leaf, so both write it. The
+-- jump back walks again from 38 on, since page 24 has put page 16 out of the cache; it reads nothing by the end at 40
+abbrev pub side_by_side : Option EpisodeEnd
+side_by_side = episode (started (overlapped 4 8 4) (two_code_pages (Present 7 false false)) 0) 30 (record far_jumper { state = record far_jumper.state { x = replicate 10 0 ++ (0x18000 ∷ replicate 21 0); memory = program loads_and_jumps ∷ record { number = 24; permissions = 5; bytes = flat_map (little_endian 4) jumps_back } ∷ [] } })
+
+abbrev pub writes_of : Option EpisodeEnd → List cells.Access
+writes_of e = option_map_or (λ (e : EpisodeEnd). filter (λ (a : cells.Access). a.written) e.log) e []
+
+pub record WalksHold : Type 0 where
+  pub ends : figures side_by_side ≡ 40 ∷ 60 ∷ 1 ∷ 1 ∷ []
+  pub cycles : log_cycles side_by_side ≡ 5 ∷ 9 ∷ 13 ∷ 17 ∷ 17 ∷ 18 ∷ 22 ∷ 24 ∷ 26 ∷ 28 ∷ 30 ∷ 32 ∷ 34 ∷ 35 ∷ 36 ∷ 36 ∷ []
+  pub writes : writes_of side_by_side ≡ written 17 port.FetchWalk 1040 5211 ∷ written 34 port.Walk 1048 7259 ∷ written 36 port.FetchWalk 1048 7259 ∷ []
+
 pub record ExamplesHold : Type 0 where
   pub hi : HiHolds
   pub calculates : CalculatesHolds
@@ -475,3 +527,5 @@ pub record ExamplesHold : Type 0 where
   pub masks : MasksHold
   pub scatters : ScattersHold
   pub jumps : JumpsHold
+  pub batches : BatchesHold
+  pub walks : WalksHold

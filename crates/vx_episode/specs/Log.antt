@@ -95,7 +95,7 @@ data_accesses last e =
 abbrev pub comes_by : (last : ℕ) → List cells.Access → List cells.Access
 comes_by last accesses = filter (λ (a : cells.Access). nat_le a.cycle last) accesses
 
--- the place of an access in the log: by cycle, by port, by bank
+-- the place of an access in the log: by cycle, by port, by bank. Of one port, data alone have two accesses at one cycle, on two banks
 abbrev pub place_in_log : (banks : ℕ) → cells.Access → ℕ
 place_in_log banks a = (5 * a.cycle + port_number a.port) * banks + a.word % banks
 

@@ -10,7 +10,7 @@ use Rattle.vx_vector.specs.Batches.{longest_run}
 use Rattle.vx_packed.specs.Joined.{some_below}
 use Rattle.vx_episode.specs.Footprint.{footprint}
 use Rattle.vx_episode.specs.Episode.{run_on, fetched_on, episode}
-use Rattle.vx_episode.specs.Examples.{HiHolds, CalculatesHolds, LoadsHold, StoresHold, AcrossHolds, TrimsHold, InFlightHold, WaitsHold, StopsHold, ChainsHold, MasksHold, ScattersHold, JumpsHold}
+use Rattle.vx_episode.specs.Examples.{HiHolds, CalculatesHolds, LoadsHold, StoresHold, AcrossHolds, TrimsHold, InFlightHold, WaitsHold, StopsHold, ChainsHold, MasksHold, ScattersHold, JumpsHold, BatchesHold, WalksHold}
 use Rattle.vx_episode.specs.Show.{is_pending}
 use Rattle.vx_episode.proofs.laws.examples_hold.Goals as goal
 
@@ -66,5 +66,13 @@ jumps : JumpsHold
 unfolding operations upcoming performed page_map after_walk walk table_walk entry_in merged after_elements longest_run some_below footprint run_on fetched_on episode
 jumps = record { wild = refl; wild_faults = refl; wild_log = refl; away = refl; away_at = refl; away_log = refl; cut = refl; cut_log = refl; cut_residency = refl; walked = refl; walked_log = refl; walked_residency = refl }
 
+batches : BatchesHold
+unfolding operations upcoming performed page_map after_walk walk table_walk entry_in merged after_elements longest_run some_below footprint run_on fetched_on episode
+batches = record { apart_starts = refl; apart_serves = refl; apart_ends = refl; apart_cut = refl; apart_within = refl; fields_serves = refl; fields_issues = refl; fields_beats = refl; fields_retire = refl; fields_end = refl }
+
+walks : WalksHold
+unfolding operations upcoming performed page_map after_walk walk table_walk entry_in merged after_elements longest_run some_below footprint run_on fetched_on episode
+walks = record { ends = refl; cycles = refl; writes = refl }
+
 pub returns : goal.returns
-returns c = record { hi = hi; calculates = calculates; loads = loads; stores = stores; across = across; trims = trims; in_flight = in_flight; waits = waits; stops = stops; chains = chains; masks = masks; scatters = scatters; jumps = jumps }
+returns c = record { hi = hi; calculates = calculates; loads = loads; stores = stores; across = across; trims = trims; in_flight = in_flight; waits = waits; stops = stops; chains = chains; masks = masks; scatters = scatters; jumps = jumps; batches = batches; walks = walks }
