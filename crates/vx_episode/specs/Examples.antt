@@ -206,6 +206,14 @@ loads_apart = 0x0ab57607 ∷ 0x00000073 ∷ []
 abbrev pub loads_fields : List ℕ
 loads_fields = 0x63057407 ∷ 0x42802657 ∷ 0x00000073 ∷ []
 
+-- vmor.mm v0, v1, v1; vle8.v v8, (a0), v0.t; ecall
+abbrev pub loads_by_mask : List ℕ
+loads_by_mask = 0x6a10a057 ∷ 0x00050407 ∷ 0x00000073 ∷ []
+
+-- vluxei64.v v16, (a0), v12
+abbrev pub gathers_alone : List ℕ
+gathers_alone = 0x06c57807 ∷ []
+
 -- ld a1, 0(a0); jal zero, 0x7ffc
 abbrev pub loads_and_jumps : List ℕ
 loads_and_jumps = 0x00053583 ∷ 0x7fd0706f ∷ []
@@ -488,7 +496,21 @@ fields = started (overlapped 8 1 4) (code_page ∷ data_page ∷ []) 0
 abbrev pub fields_loader : Process
 fields_loader = process (record two_elements { vtype = 0x19 }) 0x11fc8 0 0 (last_page ∷ []) loads_fields
 
+-- 128 elements of which the mask leaves elements 0 and 64, with one lane: the first batch, of elements 0 to 63, also waits for the word
+-- with the mask's bit of element 64, which is made a cycle after the word with theirs
+abbrev pub by_mask : Start
+by_mask = started (overlapped 1 8 4) (code_page ∷ data_page ∷ []) 0
+
+abbrev pub mask_loader : Process
+mask_loader = process
+    (record (eight_elements 0) { vl = 128; vtype = 3; words = 0 ∷ 0 ∷ 1 ∷ 1 ∷ replicate 60 0 })
+    0x11000 0 0 (zero_page 17 ∷ []) loads_by_mask
+
 pub record BatchesHold : Type 0 where
+  pub mask_beats : beat_cycles (instructions by_mask 1000 mask_loader.state) ≡ (18 ∷ 19 ∷ []) ∷ [] ∷ [] ∷ []
+  pub mask_starts : start_cycles (instructions by_mask 1000 mask_loader.state) ≡ [] ∷ (21 ∷ 38 ∷ []) ∷ [] ∷ []
+  pub mask_serves : serve_cycles (instructions by_mask 1000 mask_loader.state) ≡ [] ∷ (38 ∷ 42 ∷ []) ∷ [] ∷ []
+  pub mask_ends : figures (episode by_mask 1000 mask_loader) ≡ 48 ∷ 68 ∷ 2 ∷ 3 ∷ []
   pub apart_starts : start_cycles (instructions apart 1000 apart_loader.state) ≡ (18 ∷ 35 ∷ 44 ∷ 52 ∷ []) ∷ [] ∷ []
   pub apart_serves : serve_cycles (instructions apart 1000 apart_loader.state) ≡ (35 ∷ 39 ∷ 43 ∷ 47 ∷ 51 ∷ 55 ∷ 59 ∷ 63 ∷ []) ∷ [] ∷ []
   pub apart_ends : figures (episode apart 1000 apart_loader) ≡ 69 ∷ 89 ∷ 1 ∷ 4 ∷ []
@@ -499,6 +521,23 @@ pub record BatchesHold : Type 0 where
   pub fields_beats : beat_cycles (instructions fields 1000 fields_loader.state) ≡ [] ∷ (55 ∷ []) ∷ [] ∷ []
   pub fields_retire : retire_cycles (instructions fields 1000 fields_loader.state) ≡ 64 ∷ 65 ∷ []
   pub fields_end : figures (episode fields 1000 fields_loader) ≡ 66 ∷ 86 ∷ 2 ∷ 2 ∷ []
+
+-- a gather whose second batch begins with a misaligned access: the commit of the first batch and the stop of the second come at one
+-- cycle, and the commit is first. A stop behind the end of a slice is a stop where no commit came since
+abbrev pub uneven : Process
+uneven = process
+    (record (eight_elements 0) { words = replicate 24 0 ++ (0 ∷ 8 ∷ 16 ∷ 24 ∷ 33 ∷ 40 ∷ 48 ∷ 56 ∷ replicate 32 0) })
+    0x11000 0 0 (zero_page 17 ∷ []) gathers_alone
+
+pub record TiesHold : Type 0 where
+  pub commit : figures (episode loading 39 uneven) ≡ 39 ∷ 59 ∷ 0 ∷ 1 ∷ []
+  pub commit_is : ended_of (episode loading 39 uneven) ≡ Some ended.Slice
+  pub stop : figures (episode loading 40 uneven) ≡ 39 ∷ 59 ∷ 0 ∷ 1 ∷ []
+  pub stop_is : ended_of (episode loading 40 uneven) ≡ Some (ended.Faulted (record { cause = 4; tval = 0x11021; vstart = 4 }))
+  pub behind_slice : ended_of (episode (across Away) 20 (crosser 0)) ≡ Some (ended.Away 0x12000 Store)
+  pub service : ended_of (episode (started sequential (code_page ∷ []) 100) 132 (process no_vectors 0 0 0 [] writes_hi)) ≡ Some ended.Service
+  pub retire : figures (episode (started sequential (code_page ∷ []) 100) 131 (process no_vectors 0 0 0 [] writes_hi)) ≡ 131 ∷ 151 ∷ 5 ∷ 5 ∷ []
+  pub retire_is : ended_of (episode (started sequential (code_page ∷ []) 100) 131 (process no_vectors 0 0 0 [] writes_hi)) ≡ Some ended.Slice
 
 -- a load from page 24, and a jump there: both walk, and neither has written A before the other reads the leaf, so both write it. The
 -- jump back walks again from 38 on, since page 24 has put page 16 out of the cache; it reads nothing by the end at 40
@@ -528,4 +567,5 @@ pub record ExamplesHold : Type 0 where
   pub scatters : ScattersHold
   pub jumps : JumpsHold
   pub batches : BatchesHold
+  pub ties : TiesHold
   pub walks : WalksHold
