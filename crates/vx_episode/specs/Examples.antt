@@ -210,6 +210,10 @@ loads_fields = 0x63057407 ∷ 0x42802657 ∷ 0x00000073 ∷ []
 abbrev pub loads_by_mask : List ℕ
 loads_by_mask = 0x6a10a057 ∷ 0x00050407 ∷ 0x00000073 ∷ []
 
+-- vmv2r.v v8, v4; vcpop.m a2, v4; vmv.s.x v12, a2; vredsum.vs v16, v20, v24; ecall
+abbrev pub moves_and_counts : List ℕ
+moves_and_counts = 0x9e40b457 ∷ 0x42482657 ∷ 0x42066657 ∷ 0x034c2857 ∷ 0x00000073 ∷ []
+
 -- vluxei64.v v16, (a0), v12
 abbrev pub gathers_alone : List ℕ
 gathers_alone = 0x06c57807 ∷ []
@@ -422,6 +426,22 @@ pub record ChainsHold : Type 0 where
   pub retires : retire_cycles (instructions trimming 1000 chainer.state) ≡ 44 ∷ 46 ∷ []
   pub ends : figures (episode trimming 1000 chainer) ≡ 47 ∷ 67 ∷ 2 ∷ 3 ∷ []
 
+-- which words are handled, with two lanes: a move of whole registers handles the four words of two registers, whatever vl is; where vl
+-- is 0 the others handle none, else one word of a mask, one word, and the eight words of vs2
+abbrev pub mover : (vl : ℕ) → Process
+mover vl = process (record (eight_elements 0) { vl = vl }) 0 0 0 [] moves_and_counts
+
+abbrev pub moving_words : Start
+moving_words = started (overlapped 2 8 4) (code_page ∷ []) 0
+
+pub record HandlesHold : Type 0 where
+  pub none_issue : issue_cycles (instructions moving_words 1000 (mover 0).state) ≡ 17 ∷ 18 ∷ 19 ∷ 20 ∷ 26 ∷ []
+  pub none_beat : beat_cycles (instructions moving_words 1000 (mover 0).state) ≡ (18 ∷ 19 ∷ []) ∷ [] ∷ [] ∷ [] ∷ [] ∷ []
+  pub none_retire : retire_cycles (instructions moving_words 1000 (mover 0).state) ≡ 22 ∷ 23 ∷ 24 ∷ 25 ∷ []
+  pub eight_issue : issue_cycles (instructions moving_words 1000 (mover 8).state) ≡ 17 ∷ 18 ∷ 23 ∷ 24 ∷ 34 ∷ []
+  pub eight_beat : beat_cycles (instructions moving_words 1000 (mover 8).state) ≡ (18 ∷ 19 ∷ []) ∷ (19 ∷ []) ∷ (24 ∷ []) ∷ (25 ∷ 26 ∷ 27 ∷ 28 ∷ []) ∷ [] ∷ []
+  pub eight_retire : retire_cycles (instructions moving_words 1000 (mover 8).state) ≡ 22 ∷ 24 ∷ 29 ∷ 33 ∷ []
+
 -- a load of two elements, of which the mask leaves out the first, with one element a batch: that is a batch without an access
 abbrev pub masked_loader : Process
 masked_loader = process (record two_elements { words = 2 ∷ replicate 63 0 }) 0x11000 0 0 (zero_page 17 ∷ []) loads_masked
@@ -563,6 +583,7 @@ pub record ExamplesHold : Type 0 where
   pub waits : WaitsHold
   pub stops : StopsHold
   pub chains : ChainsHold
+  pub handles : HandlesHold
   pub masks : MasksHold
   pub scatters : ScattersHold
   pub jumps : JumpsHold
