@@ -531,6 +531,10 @@ pub record BatchesHold : Type 0 where
   pub mask_starts : start_cycles (instructions by_mask 1000 mask_loader.state) ≡ [] ∷ (21 ∷ 38 ∷ []) ∷ [] ∷ []
   pub mask_serves : serve_cycles (instructions by_mask 1000 mask_loader.state) ≡ [] ∷ (38 ∷ 42 ∷ []) ∷ [] ∷ []
   pub mask_ends : figures (episode by_mask 1000 mask_loader) ≡ 48 ∷ 68 ∷ 2 ∷ 3 ∷ []
+  -- with a window of four a store's batch still starts behind the retire before it
+  pub store_starts : start_cycles (instructions twice 1000 storer.state) ≡ (18 ∷ []) ∷ (41 ∷ []) ∷ (64 ∷ []) ∷ [] ∷ []
+  pub store_issues : issue_cycles (instructions twice 1000 storer.state) ≡ 17 ∷ 39 ∷ 40 ∷ 71 ∷ []
+  pub store_serves : serve_cycles (instructions twice 1000 storer.state) ≡ (35 ∷ []) ∷ (58 ∷ []) ∷ (65 ∷ []) ∷ [] ∷ []
   pub apart_starts : start_cycles (instructions apart 1000 apart_loader.state) ≡ (18 ∷ 35 ∷ 44 ∷ 52 ∷ []) ∷ [] ∷ []
   pub apart_serves : serve_cycles (instructions apart 1000 apart_loader.state) ≡ (35 ∷ 39 ∷ 43 ∷ 47 ∷ 51 ∷ 55 ∷ 59 ∷ 63 ∷ []) ∷ [] ∷ []
   pub apart_ends : figures (episode apart 1000 apart_loader) ≡ 69 ∷ 89 ∷ 1 ∷ 4 ∷ []

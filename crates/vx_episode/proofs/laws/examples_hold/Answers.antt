@@ -72,7 +72,7 @@ jumps = record { wild = refl; wild_faults = refl; wild_log = refl; away = refl; 
 
 batches : BatchesHold
 unfolding operations upcoming performed page_map after_walk walk table_walk entry_in merged after_elements longest_run some_below footprint run_on fetched_on episode
-batches = record { mask_beats = refl; mask_starts = refl; mask_serves = refl; mask_ends = refl; apart_starts = refl; apart_serves = refl; apart_ends = refl; apart_cut = refl; apart_within = refl; fields_serves = refl; fields_issues = refl; fields_beats = refl; fields_retire = refl; fields_end = refl }
+batches = record { mask_beats = refl; mask_starts = refl; mask_serves = refl; mask_ends = refl; store_starts = refl; store_issues = refl; store_serves = refl; apart_starts = refl; apart_serves = refl; apart_ends = refl; apart_cut = refl; apart_within = refl; fields_serves = refl; fields_issues = refl; fields_beats = refl; fields_retire = refl; fields_end = refl }
 
 ties : TiesHold
 unfolding operations upcoming performed page_map after_walk walk table_walk entry_in merged after_elements longest_run some_below footprint run_on fetched_on episode
