@@ -15,7 +15,7 @@ use Rattle.vx_episode.specs.declared.ended.Ended.TheVariants.{Away}
 -- ---- the times of an instruction
 
 module _ (start : Start) (history : History) where
-  -- with its fetch and its issue; with its beats and its batches; with its generation; and with its completion
+  -- what an instruction does, from what is known of it so far: up to its completion, its generation, its issue, or its fetch
   abbrev pub entry_completed : Flat → Footprint → FetchTimes → (issued : Cycle) → List BeatTimes → List BatchTimes → (generated completed : Cycle) → Entry
   entry_completed s f fetch issued beats batches generated completed =
       let retired = retire_cycle start history completed in
@@ -54,8 +54,8 @@ entry_of start history s = timed start history s (footprint start.machine start.
 
 -- ---- commits and stops
 
--- an instruction has completed; the elements of a vector load or store below one are done; or it stops, with those done that were
--- done before, below the element `from`, and those from there on below another
+-- an instruction completes; a vector load or store reaches an element, with those below it done; or an instruction stops at an element,
+-- with those below it done, of which those below `from` were before
 pub data What : Type 0 where
   Completes : What
   Reaches : (element : ℕ) → What

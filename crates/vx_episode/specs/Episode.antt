@@ -11,7 +11,7 @@ use Rattle.vx_tables.specs.Residency.{Residency}
 use Rattle.vx_episode.specs.Commits.{What, Happening, entry_of, happenings_of, happenings, ends}
 use Rattle.vx_episode.specs.Commits.What.{Completes, Reaches, Stops}
 use Rattle.vx_episode.specs.Cycles.{is_by}
-use Rattle.vx_episode.specs.History.{History, Walk, AccessTimes, last_retire, accesses_of, batches_of, fetch_walks, data_walks, after_walks}
+use Rattle.vx_episode.specs.History.{History, Walk, AccessTimes, last_retire, accesses_of, queued_by, batches_of, fetch_walks, data_walks, after_walks}
 use Rattle.vx_episode.specs.Organisation.{Start}
 use Rattle.vx_episode.specs.Instructions.{fetch_begin}
 use Rattle.vx_episode.specs.Log.{log_up_to}
@@ -52,10 +52,6 @@ fetched_on start last (suc bound) history s =
 abbrev pub fetched_by : Start → (last : ℕ) → Flat → History
 fetched_by start last s = fetched_on start last (last - start.cycle) [] s
 
--- the accesses that were queued by a cycle
-abbrev pub queued_by : (last : ℕ) → History → List AccessTimes
-queued_by last history = filter (λ (a : AccessTimes). nat_le a.queued last) (accesses_of (batches_of history))
-
 -- the cycles from the end of an episode to the system
 abbrev pub trap_cycles : ℕ
 trap_cycles = 20
@@ -67,7 +63,7 @@ greatest (cycle ∷ cycles) = max cycle (greatest cycles)
 -- the cycle at which the system takes over from an episode that ends at a cycle: once the accesses are done that were queued by
 -- then
 abbrev pub clock_behind : (last : ℕ) → History → ℕ
-clock_behind last history = greatest (last ∷ map (λ (a : AccessTimes). a.done) (queued_by last history)) + trap_cycles
+clock_behind last history = greatest (last ∷ map (λ (a : AccessTimes). a.done) (queued_by last (accesses_of (batches_of history)))) + trap_cycles
 
 -- the residency at a cycle: the walks that have ended have set A and D
 abbrev pub residency_by : Start → (last : ℕ) → History → Residency
@@ -113,7 +109,7 @@ ended_at Completes = Slice
 ended_at (Reaches element) = Slice
 ended_at (Stops why from element) = why
 
--- the process with the elements below k of its next instruction done
+-- the process with the elements below k of its next instruction done; of one that isn't a vector load or store there are none
 abbrev pub within : (k : ℕ) → Process → Process
 within k p = record p { state = unwrap_or (prefix_at k p.state) p.state }
 

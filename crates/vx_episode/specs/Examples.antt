@@ -1,6 +1,6 @@
 -- Small programs and when what they do comes, on which the definitions are computed. This project's own; the cycles were worked out
 -- by hand from the equations, as docs/TIMES.md shows.
-use Rattle.std.specs.Prelude.{◌≡◌, ℕ, ◌^◌, ◌-◌, Bool, true, false, List, [], ◌∷◌, ◌++◌, map, flat_map, replicate, reverse, Option, Some, None, option_map}
+use Rattle.std.specs.Prelude.{◌≡◌, ℕ, ◌^◌, ◌-◌, Bool, true, false, List, [], ◌∷◌, ◌++◌, map, flat_map, filter, replicate, reverse, Option, Some, None, option_map}
 use Rattle.std.specs.Option.{option_map_or}
 use Rattle.vx_base.specs.Numbers.{little_endian}
 use Rattle.vx_cells.specs.declared.access.Access as cells
@@ -173,6 +173,54 @@ reads_vlenb = 0xc22022f3 ∷ 0x00000073 ∷ []
 
 abbrev pub configures : List ℕ
 configures = 0x01a5f2d7 ∷ 0x00000073 ∷ []
+
+-- div a1, a0, a0; addi a2, a1, 0; mul a3, a0, a0; ecall
+abbrev pub divides : List ℕ
+divides = 0x02a545b3 ∷ 0x00058613 ∷ 0x02a506b3 ∷ 0x00000073 ∷ []
+
+-- vle64.v v8, (a0); vadd.vv v12, v8, v8; ecall
+abbrev pub chains : List ℕ
+chains = 0x02057407 ∷ 0x02840657 ∷ 0x00000073 ∷ []
+
+-- vle64.v v8, (a0), v0.t; ecall
+abbrev pub loads_masked : List ℕ
+loads_masked = 0x00057407 ∷ 0x00000073 ∷ []
+
+-- ld a1, 0(a2); vsuxei64.v v8, (a0), v12; ecall
+abbrev pub scatters : List ℕ
+scatters = 0x00063583 ∷ 0x06c57427 ∷ 0x00000073 ∷ []
+
+-- jalr zero, 0(a0)
+abbrev pub jumps_by : List ℕ
+jumps_by = 0x00050067 ∷ []
+
+-- vdivu.vv v20, v24, v16; jal zero, 0x7ffc
+abbrev pub divides_and_jumps : List ℕ
+divides_and_jumps = 0x83882a57 ∷ 0x7fd0706f ∷ []
+
+-- vlse64.v v12, (a0), a1; ecall
+abbrev pub loads_apart : List ℕ
+loads_apart = 0x0ab57607 ∷ 0x00000073 ∷ []
+
+-- vlseg4e64ff.v v8, (a0); vmv.x.s a2, v8; ecall
+abbrev pub loads_fields : List ℕ
+loads_fields = 0x63057407 ∷ 0x42802657 ∷ 0x00000073 ∷ []
+
+-- vmor.mm v0, v1, v1; vle8.v v8, (a0), v0.t; ecall
+abbrev pub loads_by_mask : List ℕ
+loads_by_mask = 0x6a10a057 ∷ 0x00050407 ∷ 0x00000073 ∷ []
+
+-- vmv2r.v v8, v4; vcpop.m a2, v4; vmv.s.x v12, a2; vredsum.vs v16, v20, v24; ecall
+abbrev pub moves_and_counts : List ℕ
+moves_and_counts = 0x9e40b457 ∷ 0x42482657 ∷ 0x42066657 ∷ 0x034c2857 ∷ 0x00000073 ∷ []
+
+-- vluxei64.v v16, (a0), v12
+abbrev pub gathers_alone : List ℕ
+gathers_alone = 0x06c57807 ∷ []
+
+-- ld a1, 0(a0); jal zero, 0x7ffc
+abbrev pub loads_and_jumps : List ℕ
+loads_and_jumps = 0x00053583 ∷ 0x7fd0706f ∷ []
 
 -- ---- what they come to
 
@@ -364,6 +412,170 @@ pub record StopsHold : Type 0 where
   pub reads_alone : changed_in (episode having 1000 (process no_vectors 0 0 0 [] reads_vlenb)) ≡ Some false
   pub changes : changed_in (episode having 1000 (process no_vectors 0 64 0 [] configures)) ≡ Some true
 
+-- a division, an addition that waits for it, and a multiplication; beats that wait for the words that are loaded
+abbrev pub divider : Process
+divider = process no_vectors 6 0 0 [] divides
+
+abbrev pub chainer : Process
+chainer = process (eight_elements 0) 0x11000 0 0 (zero_page 17 ∷ []) chains
+
+pub record ChainsHold : Type 0 where
+  pub divisions : issue_cycles (instructions (started (overlapped 1 8 4) (code_page ∷ []) 0) 1000 divider.state) ≡ 17 ∷ 37 ∷ 38 ∷ 43 ∷ []
+  pub divisions_retire : retire_cycles (instructions (started (overlapped 1 8 4) (code_page ∷ []) 0) 1000 divider.state) ≡ 38 ∷ 39 ∷ 42 ∷ []
+  pub beats : beat_cycles (instructions trimming 1000 chainer.state) ≡ [] ∷ (39 ∷ 43 ∷ []) ∷ [] ∷ []
+  pub retires : retire_cycles (instructions trimming 1000 chainer.state) ≡ 44 ∷ 46 ∷ []
+  pub ends : figures (episode trimming 1000 chainer) ≡ 47 ∷ 67 ∷ 2 ∷ 3 ∷ []
+
+-- which words are handled, with two lanes: a move of whole registers handles the four words of two registers, whatever vl is; where vl
+-- is 0 the others handle none, else one word of a mask, one word, and the eight words of vs2
+abbrev pub mover : (vl : ℕ) → Process
+mover vl = process (record (eight_elements 0) { vl = vl }) 0 0 0 [] moves_and_counts
+
+abbrev pub moving_words : Start
+moving_words = started (overlapped 2 8 4) (code_page ∷ []) 0
+
+pub record HandlesHold : Type 0 where
+  pub none_issue : issue_cycles (instructions moving_words 1000 (mover 0).state) ≡ 17 ∷ 18 ∷ 19 ∷ 20 ∷ 26 ∷ []
+  pub none_beat : beat_cycles (instructions moving_words 1000 (mover 0).state) ≡ (18 ∷ 19 ∷ []) ∷ [] ∷ [] ∷ [] ∷ [] ∷ []
+  pub none_retire : retire_cycles (instructions moving_words 1000 (mover 0).state) ≡ 22 ∷ 23 ∷ 24 ∷ 25 ∷ []
+  pub eight_issue : issue_cycles (instructions moving_words 1000 (mover 8).state) ≡ 17 ∷ 18 ∷ 23 ∷ 24 ∷ 34 ∷ []
+  pub eight_beat : beat_cycles (instructions moving_words 1000 (mover 8).state) ≡ (18 ∷ 19 ∷ []) ∷ (19 ∷ []) ∷ (24 ∷ []) ∷ (25 ∷ 26 ∷ 27 ∷ 28 ∷ []) ∷ [] ∷ []
+  pub eight_retire : retire_cycles (instructions moving_words 1000 (mover 8).state) ≡ 22 ∷ 24 ∷ 29 ∷ 33 ∷ []
+
+-- a load of two elements, of which the mask leaves out the first, with one element a batch: that is a batch without an access
+abbrev pub masked_loader : Process
+masked_loader = process (record two_elements { words = 2 ∷ replicate 63 0 }) 0x11000 0 0 (zero_page 17 ∷ []) loads_masked
+
+pub record MasksHold : Type 0 where
+  pub starts : start_cycles (instructions storing 1000 masked_loader.state) ≡ (18 ∷ 19 ∷ []) ∷ [] ∷ []
+  pub serves : serve_cycles (instructions storing 1000 masked_loader.state) ≡ (36 ∷ []) ∷ [] ∷ []
+  -- a slice that is over at 18 ends with it, and vstart is 1 then; one that is over at 19, with the retire
+  pub cut : figures (episode storing 18 masked_loader) ≡ 18 ∷ 38 ∷ 0 ∷ 1 ∷ []
+  pub cut_within : vector_state_of (episode storing 18 masked_loader) ≡ Some (record two_elements { words = 2 ∷ replicate 63 0; vstart = 1 })
+  pub cut_behind : figures (episode storing 19 masked_loader) ≡ 41 ∷ 61 ∷ 1 ∷ 2 ∷ []
+
+-- a store of four elements, two on page 17, one on page 18 and one on page 19, of which the last two can't be written. The load
+-- before it has filled the cache with page 19, so element 3 is known to fail first; but element 2 is the lowest that fails
+abbrev pub scatterer : Process
+scatterer = process
+    (record (eight_elements 0) { vl = 4; words = replicate 24 0 ++ (0 ∷ 8 ∷ 0x1000 ∷ 0x2000 ∷ replicate 36 0) })
+    0x11000 0 0x13000
+    (zero_page 17 ∷ record (zero_page 18) { permissions = 4 } ∷ record (zero_page 19) { permissions = 4 } ∷ []) scatters
+
+abbrev pub scattering : Start
+scattering = started (overlapped 4 8 1) (code_page ∷ data_page ∷ placed_page 18 4 (Present 7 false false) ∷ placed_page 19 4 (Present 8 false false) ∷ []) 0
+
+pub record ScattersHold : Type 0 where
+  pub serves : serve_cycles (instructions scattering 1000 scatterer.state) ≡ (35 ∷ []) ∷ (59 ∷ 59 ∷ []) ∷ []
+  pub ends : figures (episode scattering 1000 scatterer) ≡ 74 ∷ 94 ∷ 1 ∷ 2 ∷ []
+  pub faults_with : ended_of (episode scattering 1000 scatterer) ≡ Some (ended.Faulted (record { cause = 15; tval = 0x12000; vstart = 2 }))
+  pub residency : residency_of (episode scattering 1000 scatterer)
+      ≡ Some (placed_page 16 5 (Present 5 true false) ∷ placed_page 17 6 (Present 6 true true) ∷ placed_page 18 4 (Present 7 false false) ∷ placed_page 19 4 (Present 8 true false) ∷ [])
+
+-- a jump to an address that isn't canonical: nothing is walked or read there. One to a page that is away: it is walked
+abbrev pub wild_jumper : Process
+wild_jumper = process no_vectors (2 ^ 63) 0 0 [] jumps_by
+
+-- a jump to page 24 behind a division: a slice that is over at 30 ends with the division's retire at 35, and the walk for the fetch
+-- behind the jump, from 20 to 36, has read its entries, but not set A; one that is over at 36 has it set, and the fetch made
+abbrev pub two_code_pages : Place → Residency
+two_code_pages place = code_page ∷ placed_page 24 5 place ∷ []
+
+abbrev pub dividing : Start
+dividing = started (overlapped 8 8 4) (two_code_pages (Present 7 false false)) 0
+
+abbrev pub dividing_jumper : Process
+dividing_jumper = process (eight_elements 0) 0 0 0 (record { number = 24; permissions = 5; bytes = flat_map (little_endian 4) jumps_back } ∷ []) divides_and_jumps
+
+pub record JumpsHold : Type 0 where
+  pub wild : figures (episode having 1000 wild_jumper) ≡ 20 ∷ 40 ∷ 1 ∷ 1 ∷ []
+  pub wild_faults : ended_of (episode having 1000 wild_jumper) ≡ Some (ended.Faulted (record { cause = 12; tval = 2 ^ 63; vstart = 0 }))
+  pub wild_log : log_cycles (episode having 1000 wild_jumper) ≡ 5 ∷ 9 ∷ 13 ∷ 17 ∷ 17 ∷ []
+  pub away : figures (episode (started sequential (two_code_pages Away) 0) 1000 far_jumper) ≡ 35 ∷ 55 ∷ 1 ∷ 1 ∷ []
+  pub away_at : ended_of (episode (started sequential (two_code_pages Away) 0) 1000 far_jumper) ≡ Some (ended.Away 0x18000 Fetch)
+  pub away_log : log_cycles (episode (started sequential (two_code_pages Away) 0) 1000 far_jumper) ≡ 5 ∷ 9 ∷ 13 ∷ 17 ∷ 17 ∷ 23 ∷ 27 ∷ 31 ∷ []
+  pub cut : figures (episode dividing 30 dividing_jumper) ≡ 35 ∷ 55 ∷ 1 ∷ 1 ∷ []
+  pub cut_log : log_cycles (episode dividing 30 dividing_jumper) ≡ 5 ∷ 9 ∷ 13 ∷ 17 ∷ 17 ∷ 18 ∷ 24 ∷ 28 ∷ 32 ∷ []
+  pub cut_residency : residency_of (episode dividing 30 dividing_jumper) ≡ Some (placed_page 16 5 (Present 5 true false) ∷ placed_page 24 5 (Present 7 false false) ∷ [])
+  pub walked : figures (episode dividing 36 dividing_jumper) ≡ 36 ∷ 56 ∷ 2 ∷ 2 ∷ []
+  pub walked_log : log_cycles (episode dividing 36 dividing_jumper) ≡ 5 ∷ 9 ∷ 13 ∷ 17 ∷ 17 ∷ 18 ∷ 24 ∷ 28 ∷ 32 ∷ 36 ∷ 36 ∷ []
+  pub walked_residency : residency_of (episode dividing 36 dividing_jumper) ≡ Some (placed_page 16 5 (Present 5 true false) ∷ placed_page 24 5 (Present 7 true false) ∷ [])
+
+-- eight elements on one bank, two a batch: the third batch waits for the commit of the first, and the fourth for that of the second
+abbrev pub apart : Start
+apart = started (overlapped 2 4 1) (code_page ∷ data_page ∷ []) 0
+
+abbrev pub apart_loader : Process
+apart_loader = process (eight_elements 0) 0x11000 32 0 (zero_page 17 ∷ []) loads_apart
+
+-- two elements of four fields on one bank: the last field of element 1 lies on a page that isn't mapped, so vl becomes 1. The three
+-- fields before it were queued by then, and are waited for
+abbrev pub fields : Start
+fields = started (overlapped 8 1 4) (code_page ∷ data_page ∷ []) 0
+
+abbrev pub fields_loader : Process
+fields_loader = process (record two_elements { vtype = 0x19 }) 0x11fc8 0 0 (last_page ∷ []) loads_fields
+
+-- 128 elements of which the mask leaves elements 0 and 64, with one lane: the first batch, of elements 0 to 63, also waits for the word
+-- with the mask's bit of element 64, which is made a cycle after the word with theirs
+abbrev pub by_mask : Start
+by_mask = started (overlapped 1 8 4) (code_page ∷ data_page ∷ []) 0
+
+abbrev pub mask_loader : Process
+mask_loader = process
+    (record (eight_elements 0) { vl = 128; vtype = 3; words = 0 ∷ 0 ∷ 1 ∷ 1 ∷ replicate 60 0 })
+    0x11000 0 0 (zero_page 17 ∷ []) loads_by_mask
+
+pub record BatchesHold : Type 0 where
+  pub mask_beats : beat_cycles (instructions by_mask 1000 mask_loader.state) ≡ (18 ∷ 19 ∷ []) ∷ [] ∷ [] ∷ []
+  pub mask_starts : start_cycles (instructions by_mask 1000 mask_loader.state) ≡ [] ∷ (21 ∷ 38 ∷ []) ∷ [] ∷ []
+  pub mask_serves : serve_cycles (instructions by_mask 1000 mask_loader.state) ≡ [] ∷ (38 ∷ 42 ∷ []) ∷ [] ∷ []
+  pub mask_ends : figures (episode by_mask 1000 mask_loader) ≡ 48 ∷ 68 ∷ 2 ∷ 3 ∷ []
+  -- with a window of four a store's batch still starts behind the retire before it
+  pub store_starts : start_cycles (instructions twice 1000 storer.state) ≡ (18 ∷ []) ∷ (41 ∷ []) ∷ (64 ∷ []) ∷ [] ∷ []
+  pub store_issues : issue_cycles (instructions twice 1000 storer.state) ≡ 17 ∷ 39 ∷ 40 ∷ 71 ∷ []
+  pub store_serves : serve_cycles (instructions twice 1000 storer.state) ≡ (35 ∷ []) ∷ (58 ∷ []) ∷ (65 ∷ []) ∷ [] ∷ []
+  pub apart_starts : start_cycles (instructions apart 1000 apart_loader.state) ≡ (18 ∷ 35 ∷ 44 ∷ 52 ∷ []) ∷ [] ∷ []
+  pub apart_serves : serve_cycles (instructions apart 1000 apart_loader.state) ≡ (35 ∷ 39 ∷ 43 ∷ 47 ∷ 51 ∷ 55 ∷ 59 ∷ 63 ∷ []) ∷ [] ∷ []
+  pub apart_ends : figures (episode apart 1000 apart_loader) ≡ 69 ∷ 89 ∷ 1 ∷ 4 ∷ []
+  pub apart_cut : figures (episode apart 44 apart_loader) ≡ 51 ∷ 79 ∷ 0 ∷ 2 ∷ []
+  pub apart_within : vector_state_of (episode apart 44 apart_loader) ≡ Some (eight_elements 4)
+  pub fields_serves : serve_cycles (instructions fields 1000 fields_loader.state) ≡ (35 ∷ 39 ∷ 43 ∷ 47 ∷ 51 ∷ 55 ∷ 59 ∷ []) ∷ [] ∷ [] ∷ []
+  pub fields_issues : issue_cycles (instructions fields 1000 fields_loader.state) ≡ 17 ∷ 51 ∷ 66 ∷ []
+  pub fields_beats : beat_cycles (instructions fields 1000 fields_loader.state) ≡ [] ∷ (55 ∷ []) ∷ [] ∷ []
+  pub fields_retire : retire_cycles (instructions fields 1000 fields_loader.state) ≡ 64 ∷ 65 ∷ []
+  pub fields_end : figures (episode fields 1000 fields_loader) ≡ 66 ∷ 86 ∷ 2 ∷ 2 ∷ []
+
+-- a gather whose second batch begins with a misaligned access: the commit of the first batch and the stop of the second come at one
+-- cycle, and the commit is first. A stop behind the end of a slice is a stop where no commit came since
+abbrev pub uneven : Process
+uneven = process
+    (record (eight_elements 0) { words = replicate 24 0 ++ (0 ∷ 8 ∷ 16 ∷ 24 ∷ 33 ∷ 40 ∷ 48 ∷ 56 ∷ replicate 32 0) })
+    0x11000 0 0 (zero_page 17 ∷ []) gathers_alone
+
+pub record TiesHold : Type 0 where
+  pub commit : figures (episode loading 39 uneven) ≡ 39 ∷ 59 ∷ 0 ∷ 1 ∷ []
+  pub commit_is : ended_of (episode loading 39 uneven) ≡ Some ended.Slice
+  pub stop : figures (episode loading 40 uneven) ≡ 39 ∷ 59 ∷ 0 ∷ 1 ∷ []
+  pub stop_is : ended_of (episode loading 40 uneven) ≡ Some (ended.Faulted (record { cause = 4; tval = 0x11021; vstart = 4 }))
+  pub behind_slice : ended_of (episode (across Away) 20 (crosser 0)) ≡ Some (ended.Away 0x12000 Store)
+  pub service : ended_of (episode (started sequential (code_page ∷ []) 100) 132 (process no_vectors 0 0 0 [] writes_hi)) ≡ Some ended.Service
+  pub retire : figures (episode (started sequential (code_page ∷ []) 100) 131 (process no_vectors 0 0 0 [] writes_hi)) ≡ 131 ∷ 151 ∷ 5 ∷ 5 ∷ []
+  pub retire_is : ended_of (episode (started sequential (code_page ∷ []) 100) 131 (process no_vectors 0 0 0 [] writes_hi)) ≡ Some ended.Slice
+
+-- a load from page 24, and a jump there: both walk, and neither has written A before the other reads the leaf, so both write it. The
+-- jump back walks again from 38 on, since page 24 has put page 16 out of the cache; it reads nothing by the end at 40
+abbrev pub side_by_side : Option EpisodeEnd
+side_by_side = episode (started (overlapped 4 8 4) (two_code_pages (Present 7 false false)) 0) 30 (record far_jumper { state = record far_jumper.state { x = replicate 10 0 ++ (0x18000 ∷ replicate 21 0); memory = program loads_and_jumps ∷ record { number = 24; permissions = 5; bytes = flat_map (little_endian 4) jumps_back } ∷ [] } })
+
+abbrev pub writes_of : Option EpisodeEnd → List cells.Access
+writes_of e = option_map_or (λ (e : EpisodeEnd). filter (λ (a : cells.Access). a.written) e.log) e []
+
+pub record WalksHold : Type 0 where
+  pub ends : figures side_by_side ≡ 40 ∷ 60 ∷ 1 ∷ 1 ∷ []
+  pub cycles : log_cycles side_by_side ≡ 5 ∷ 9 ∷ 13 ∷ 17 ∷ 17 ∷ 18 ∷ 22 ∷ 24 ∷ 26 ∷ 28 ∷ 30 ∷ 32 ∷ 34 ∷ 35 ∷ 36 ∷ 36 ∷ []
+  pub writes : writes_of side_by_side ≡ written 17 port.FetchWalk 1040 5211 ∷ written 34 port.Walk 1048 7259 ∷ written 36 port.FetchWalk 1048 7259 ∷ []
+
 pub record ExamplesHold : Type 0 where
   pub hi : HiHolds
   pub calculates : CalculatesHolds
@@ -374,3 +586,11 @@ pub record ExamplesHold : Type 0 where
   pub in_flight : InFlightHold
   pub waits : WaitsHold
   pub stops : StopsHold
+  pub chains : ChainsHold
+  pub handles : HandlesHold
+  pub masks : MasksHold
+  pub scatters : ScattersHold
+  pub jumps : JumpsHold
+  pub batches : BatchesHold
+  pub ties : TiesHold
+  pub walks : WalksHold

@@ -36,7 +36,7 @@ use Rattle.vx_rows.specs.declared.row.Class.{Class}
 use Rattle.vx_rows.specs.declared.row.Class.TheVariants as class
 use Rattle.vx_rows.specs.declared.row.First.{First}
 use Rattle.vx_rows.specs.declared.row.First.TheVariants as first
-use Rattle.vx_tables.specs.Residency.{Residency, page_map}
+use Rattle.vx_tables.specs.Residency.{Residency, page_map, is_store}
 use Rattle.vx_tables.specs.declared.walked.Walked.{Walked}
 use Rattle.vx_tables.specs.declared.walked.Walked.TheVariants as walked
 use Rattle.vx_vector.specs.Accesses as vector
@@ -260,10 +260,6 @@ calculating_by machine s i None = halting s
 
 -- ---- vector memory
 
-abbrev pub stores : Direction → Bool
-stores Loading = false
-stores Storing = true
-
 -- the stride in rs2, where the row has one
 abbrev pub stride_operand : Addressing → (r : ℕ) → List ℕ
 stride_operand addressing.Strided r = r ∷ []
@@ -281,7 +277,7 @@ moved_batch t b = record {
   from = b.from;
   after = b.after;
   accesses = map (moved_access t.direction t.movement) (accesses_of_batch t.movement b);
-  sources = batch_words t.movement (stores t.direction) b;
+  sources = batch_words t.movement (is_store (want_of t.direction)) b;
 }
 
 abbrev pub moving : Organisation → Transfer → Footprint

@@ -1,6 +1,6 @@
 -- What the instructions of an episode did, the newest first, and what is looked up there. This project's own. A term that speaks
 -- of an instruction, a batch or an access before the first is none: these look-ups are lists of cycles, with one at the most.
-use Rattle.std.specs.Prelude.{ℕ, zero, suc, ◌%◌, ◌==◌, Bool, false, is_some, List, [], ◌∷◌, ◌++◌, map, flat_map, find, Option, Some, None, option_map, if◌then◌else◌}
+use Rattle.std.specs.Prelude.{ℕ, zero, suc, ◌%◌, ◌==◌, Bool, false, is_some, nat_le, List, [], ◌∷◌, ◌++◌, map, flat_map, filter, find, Option, Some, None, option_map, if◌then◌else◌}
 use Rattle.std.specs.List.{list_any}
 use Rattle.std.specs.Option.{option_to_list}
 use Rattle.vx_base.specs.declared.machine.Want.{Want}
@@ -191,6 +191,10 @@ commit_before_last (b ∷ c ∷ batches) = c.committed ∷ []
 
 abbrev pub accesses_of : List BatchTimes → List AccessTimes
 accesses_of batches = flat_map (λ (b : BatchTimes). b.accesses) batches
+
+-- those that were queued by a cycle
+abbrev pub queued_by : (last : ℕ) → List AccessTimes → List AccessTimes
+queued_by last accesses = filter (λ (a : AccessTimes). nat_le a.queued last) accesses
 
 abbrev pub missing_of : List BatchTimes → List Access
 missing_of batches = flat_map (λ (b : BatchTimes). b.missing) batches

@@ -17,7 +17,7 @@ use Rattle.vx_base.specs.declared.machine.Want.TheVariants.{Fetch}
 use Rattle.vx_episode.specs.Batches.{word_in}
 use Rattle.vx_episode.specs.Cycles.{cycles_of}
 use Rattle.vx_episode.specs.Footprint.{Access}
-use Rattle.vx_episode.specs.History.{History, Entry, Walk, AccessTimes, fetch_walks, data_walks, accesses_of, after_walks}
+use Rattle.vx_episode.specs.History.{History, Entry, Walk, AccessTimes, fetch_walks, data_walks, accesses_of, queued_by, after_walks}
 use Rattle.vx_episode.specs.Organisation.{Start}
 use Rattle.vx_episode.specs.Ordered.{ordered}
 
@@ -87,7 +87,7 @@ data_access memory a (Some value) =
 -- those that were queued by a cycle
 abbrev pub data_accesses : (last : ℕ) → Entry → List cells.Access
 data_accesses last e =
-    map (λ (a : AccessTimes). data_access e.state.memory a a.access.stored) (filter (λ (a : AccessTimes). nat_le a.queued last) (accesses_of e.batches))
+    map (λ (a : AccessTimes). data_access e.state.memory a a.access.stored) (queued_by last (accesses_of e.batches))
 
 -- ---- the log
 
@@ -95,7 +95,7 @@ data_accesses last e =
 abbrev pub comes_by : (last : ℕ) → List cells.Access → List cells.Access
 comes_by last accesses = filter (λ (a : cells.Access). nat_le a.cycle last) accesses
 
--- the place of an access in the log: by cycle, by port, by bank
+-- the place of an access in the log: by cycle, by port, by bank. Of one port, data alone have two accesses at one cycle, on two banks
 abbrev pub place_in_log : (banks : ℕ) → cells.Access → ℕ
 place_in_log banks a = (5 * a.cycle + port_number a.port) * banks + a.word % banks
 

@@ -8,7 +8,7 @@ pub record Organisation : Type 0 where
   -- the banks of memory, and the cycles for which an access holds its bank
   pub banks : ℕ
   pub bank_time : ℕ
-  -- how many instructions are in flight
+  -- how many instructions may be in flight
   pub window : ℕ
   -- the most elements that a batch of accesses may have: one, or as many as any instruction has
   pub batch_limit : ℕ

@@ -10,7 +10,7 @@ use Rattle.vx_vector.specs.Batches.{longest_run}
 use Rattle.vx_packed.specs.Joined.{some_below}
 use Rattle.vx_episode.specs.Footprint.{footprint}
 use Rattle.vx_episode.specs.Episode.{run_on, fetched_on, episode}
-use Rattle.vx_episode.specs.Examples.{HiHolds, CalculatesHolds, LoadsHold, StoresHold, AcrossHolds, TrimsHold, InFlightHold, WaitsHold, StopsHold}
+use Rattle.vx_episode.specs.Examples.{HiHolds, CalculatesHolds, LoadsHold, StoresHold, AcrossHolds, TrimsHold, InFlightHold, WaitsHold, StopsHold, ChainsHold, HandlesHold, MasksHold, ScattersHold, JumpsHold, BatchesHold, TiesHold, WalksHold}
 use Rattle.vx_episode.specs.Show.{is_pending}
 use Rattle.vx_episode.proofs.laws.examples_hold.Goals as goal
 
@@ -50,5 +50,37 @@ stops : StopsHold
 unfolding operations upcoming performed page_map after_walk walk table_walk entry_in merged after_elements longest_run some_below footprint run_on fetched_on episode
 stops = record { code = refl; code_is = refl; lacks = refl; lacks_vectors = refl; reads = refl; reads_alone = refl; changes = refl }
 
+chains : ChainsHold
+unfolding operations upcoming performed page_map after_walk walk table_walk entry_in merged after_elements longest_run some_below footprint run_on fetched_on episode
+chains = record { divisions = refl; divisions_retire = refl; beats = refl; retires = refl; ends = refl }
+
+handles : HandlesHold
+unfolding operations upcoming performed page_map after_walk walk table_walk entry_in merged after_elements longest_run some_below footprint run_on fetched_on episode
+handles = record { none_issue = refl; none_beat = refl; none_retire = refl; eight_issue = refl; eight_beat = refl; eight_retire = refl }
+
+masks : MasksHold
+unfolding operations upcoming performed page_map after_walk walk table_walk entry_in merged after_elements longest_run some_below footprint run_on fetched_on episode
+masks = record { starts = refl; serves = refl; cut = refl; cut_within = refl; cut_behind = refl }
+
+scatters : ScattersHold
+unfolding operations upcoming performed page_map after_walk walk table_walk entry_in merged after_elements longest_run some_below footprint run_on fetched_on episode
+scatters = record { serves = refl; ends = refl; faults_with = refl; residency = refl }
+
+jumps : JumpsHold
+unfolding operations upcoming performed page_map after_walk walk table_walk entry_in merged after_elements longest_run some_below footprint run_on fetched_on episode
+jumps = record { wild = refl; wild_faults = refl; wild_log = refl; away = refl; away_at = refl; away_log = refl; cut = refl; cut_log = refl; cut_residency = refl; walked = refl; walked_log = refl; walked_residency = refl }
+
+batches : BatchesHold
+unfolding operations upcoming performed page_map after_walk walk table_walk entry_in merged after_elements longest_run some_below footprint run_on fetched_on episode
+batches = record { mask_beats = refl; mask_starts = refl; mask_serves = refl; mask_ends = refl; store_starts = refl; store_issues = refl; store_serves = refl; apart_starts = refl; apart_serves = refl; apart_ends = refl; apart_cut = refl; apart_within = refl; fields_serves = refl; fields_issues = refl; fields_beats = refl; fields_retire = refl; fields_end = refl }
+
+ties : TiesHold
+unfolding operations upcoming performed page_map after_walk walk table_walk entry_in merged after_elements longest_run some_below footprint run_on fetched_on episode
+ties = record { commit = refl; commit_is = refl; stop = refl; stop_is = refl; behind_slice = refl; service = refl; retire = refl; retire_is = refl }
+
+walks : WalksHold
+unfolding operations upcoming performed page_map after_walk walk table_walk entry_in merged after_elements longest_run some_below footprint run_on fetched_on episode
+walks = record { ends = refl; cycles = refl; writes = refl }
+
 pub returns : goal.returns
-returns c = record { hi = hi; calculates = calculates; loads = loads; stores = stores; across = across; trims = trims; in_flight = in_flight; waits = waits; stops = stops }
+returns c = record { hi = hi; calculates = calculates; loads = loads; stores = stores; across = across; trims = trims; in_flight = in_flight; waits = waits; stops = stops; chains = chains; handles = handles; masks = masks; scatters = scatters; jumps = jumps; batches = batches; ties = ties; walks = walks }
