@@ -41,7 +41,7 @@ pub fn full_count(at: &Setting, regs: &Places, per_word: u32, most: u32) -> u32
 
 /// Where the words of a group stand that begins at a register, among those of all.
 #[inline(always)]
-fn group_place(at: &Setting, register: u8) -> usize
+pub fn group_place(at: &Setting, register: u8) -> usize
     ensures is { result ≡ place_of at.now.vlen register 0 }
     ensures below { result < 65536 }
 {
@@ -86,7 +86,7 @@ fn word_or(is_group: bool, words: &[u64], place: usize, other: u64) -> u64
 
 /// The word at a place, which is one of 64 bits.
 #[inline(always)]
-fn word_in(words: &[u64], place: usize) -> u64
+pub fn word_in(words: &[u64], place: usize) -> u64
     requires { place < length words.now }
     ensures is { result ≡ slice_index words.now place }
     ensures below { result < 2 ^ 64 }
