@@ -6,9 +6,11 @@
 #![tactic(auto)]
 
 mod form;
+mod full;
 mod kinds;
 mod lanes;
 mod numbers;
 mod words;
 
+pub use full::full_words;
 pub use words::word;

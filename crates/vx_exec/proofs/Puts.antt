@@ -1,11 +1,12 @@
 -- Words that are made one by one and then put are those after the instruction.
-use Rattle.std.proofs.Common.{◌≡◌, ◌≢◌, ℕ, zero, suc, ◌+◌, ◌-◌, ◌*◌, ◌<◌, ◌≤◌, Bool, false, [], ◌||◌, IsTrue, List, length, length-set, slice_index, slice_set, refl, sym, ap, ◌∙◌, subst, ⊎_elim, eq-or-lt_of_le, arith, mul-le-mul_right}
+use Rattle.std.proofs.Common.{◌≡◌, ◌≢◌, ℕ, zero, suc, ◌+◌, ◌-◌, ◌*◌, ◌/◌, ◌<◌, ◌≤◌, Bool, false, [], ◌||◌, IsTrue, List, length, length-set, slice_index, slice_set, refl, sym, ap, ◌∙◌, subst, ⊎_elim, eq-or-lt_of_le, arith, mul-le-mul_right}
 use Rattle.std.specs.List.{Contains}
 use Rattle.std.proofs.lemmas.Bool.{cases_lt}
 use Rattle.std.proofs.lemmas.Grind.{get_or-set_at}
 use Rattle.std.proofs.lemmas.List.{ext_get_or, get_or-set_other}
 use Rattle.std.proofs.lemmas.List.FromFn.{length-range_with_len}
 use Rattle.vx_base.specs.Options.{is_register_length}
+use Rattle.vx_operands.proofs.Merging.{none_below}
 use Rattle.vx_operands.proofs.Places.{registers_small}
 use Rattle.vx_packed.specs.Joined.{some_below}
 use Rattle.vx_rows.specs.Families.{operands_of}
@@ -30,9 +31,9 @@ pub record IsMadeBelow (f : ℕ → ℕ) (g : ℕ → Bool) (size n : ℕ) (word
   pub made : (k : ℕ) → k < n → slice_index words k ≡ f k
   pub sat : some ≡ some_below n g
 
-pub made-none : (f : ℕ → ℕ) (g : ℕ → Bool) (made : List ℕ) → IsMadeBelow f g (length made) 0 made false
-unfolding some_below
-made-none f g made = record { room = refl; made = λ k l. absurd (omega (arith, l)); sat = refl }
+-- the first words, made before, where none of them saturates
+pub made-before : (f : ℕ → ℕ) (g : ℕ → Bool) (n : ℕ) (made : List ℕ) → ((k : ℕ) → k < n → slice_index made k ≡ f k) → ((k : ℕ) → k < n → g k ≡ false) → IsMadeBelow f g (length made) n made false
+made-before f g n made is never = record { room = refl; made = is; sat = sym (none_below n g never) }
 
 pub made-more : (f : ℕ → ℕ) (g : ℕ → Bool) (size n value : ℕ) (one : Bool) (made : List ℕ) (sat : Bool) → IsMadeBelow f g size n made sat → n < size → value ≡ f n → one ≡ g n → IsMadeBelow f g size (n + 1) (slice_set made n value) (sat || one)
 unfolding some_below
@@ -63,6 +64,32 @@ put-more old v new register first n value f is same next =
     let more : suc n ≡ n + 1 = omega arith in
     let all : new ≡ with_put old register first f (suc n) = next ∙ (λ i. record (is i) { words = with_word (is i).vlen (is i).words register (first + n) (same i) }) in
     subst (λ m. new ≡ with_put old register first f m) more all
+
+-- a place before the end of the registers is in one of them
+pub below-registers : (r w p : ℕ) → r * p + w < 32 * p → r < 32
+below-registers r w p h =
+    ⊎_elim
+    (λ l. l)
+    (λ m. let low = mul-le-mul_right p m in absurd (omega arith))
+    (cases_lt r 32)
+
+-- the first n words are put, and the next goes to a word of a register
+pub record IsPutBelow (old v : VectorState) (register first : ℕ) (f : ℕ → ℕ) (n per r w : ℕ) : Type 0 where
+  pub is : v ≡ with_put old register first f n
+  pub place : r * per + w ≡ register * per + (first + n)
+  pub within : w < per
+
+pub put-next : (old v new : VectorState) (register first n value per r w next_r next_w : ℕ) (f : ℕ → ℕ) → per ≡ old.vlen / 64 → IsPutBelow old v register first f n per r w → value ≡ f n → new ≡ record v { words = with_word v.vlen v.words r w value } → next_r * per + next_w ≡ r * per + w + 1 → next_w < per → IsPutBelow old new register first f (n + 1) per next_r next_w
+put-next old v new register first n value per r w next_r next_w f size h same next behind within =
+    let vlen : v.vlen ≡ old.vlen = ap (λ (s : VectorState). s.vlen) h.is in
+    let words : per ≡ v.vlen / 64 = size ∙ ap (λ m. m / 64) (sym vlen) in
+    let place : place_of v.vlen r w ≡ place_of v.vlen register (first + n) = ap (λ p. r * p + w) (sym words) ∙ h.place ∙ ap (λ p. register * p + (first + n)) words in
+    let moved : new ≡ record v { words = with_word v.vlen v.words register (first + n) value } = next ∙ ap (λ p. record v { words = slice_set v.words p value }) place in
+    record {
+      is = put-more old v new register first n value f h.is same moved;
+      place = behind ∙ ap (λ m. m + 1) h.place ∙ omega arith;
+      within = within;
+    }
 
 -- ---- what was put
 

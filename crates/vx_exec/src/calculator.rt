@@ -1,6 +1,6 @@
 //! A whole instruction of vector arithmetic, done on the vector state.
 
-ghost use Rattle.std.specs.Prelude.{◌≡◌, ℕ, ◌+◌, ◌<◌, ◌≤◌, ◌||◌, false, length, slice_index, vec_len, None};
+ghost use Rattle.std.specs.Prelude.{◌≡◌, ℕ, ◌+◌, ◌*◌, ◌<◌, ◌≤◌, ◌||◌, false, length, slice_index, vec_len, None};
 ghost use Rattle.vx_exec.specs.Executed.{IsExecutable, reads};
 ghost use Rattle.vx_exec.specs.Runs.{with_words};
 ghost use Rattle.vx_mask.specs.Kinds.{is_telling};
@@ -15,7 +15,7 @@ ghost use Rattle.vx_vstate.specs.Registers.{place_of, with_word, word_at, words_
 ghost use Rattle.vx_vstate.specs.State.{finished, setting_of};
 ghost use Rattle.vx_vstate.specs.Views.{view_of};
 
-use crate::executed::{reads_soundly, scalar_of, word_by};
+use crate::executed::{places, reads_soundly, scalar_of, word_by};
 use crate::run::{Run, is_telling, run_by};
 use std::alloc::{AllocError, Global};
 use vx_decode::Instr;
@@ -98,21 +98,32 @@ fn either(a: bool, b: bool) -> bool
 }
 
 /// Makes the words of a run of an instruction's destination, and answers whether an active element of them saturated. The
-/// operation is named, so that the loop goes through no dispatch where it is known.
+/// operation is named, so that the loop goes through no dispatch where it is known. The first `done` words are made already.
 #[inline(always)]
-fn make_of(op: Op, i: &Instr, at: &Setting, v: &VState, run: Run, made: &mut [u64]) -> bool
+fn make_of(
+    op: Op,
+    i: &Instr,
+    at: &Setting,
+    v: &VState,
+    run: Run,
+    done: u32,
+    made: &mut [u64],
+) -> bool
     requires operation { op ≡ i.now.op }
     requires same { v.now.vlen ≡ at.now.vlen }
     requires executable { IsExecutable i.now (view_of at.now) }
     requires within { (k : ℕ) → k < run.count → run.first + k < length (destination_words (reads i.now (view_of at.now) v.now.words)) }
     requires small { (k : ℕ) → k < run.count → run.first + k < 1024 }
     requires room { run.count ≤ length made.old }
+    requires done { done ≤ run.count }
+    requires made { (k : ℕ) → k < done → slice_index made.old k ≡ word_at at.now.vlen (words_after (reads i.now (view_of at.now) v.now.words)) i.now.rd (run.first + k) }
+    requires unsaturated { (k : ℕ) → k < done → word_saturates (reads i.now (view_of at.now) v.now.words) (run.first + k) ≡ false }
     ensures room { length made.new ≡ length made.old }
     ensures made { (k : ℕ) → k < run.count → slice_index made.new k ≡ word_at at.now.vlen (words_after (reads i.now (view_of at.now) v.now.words)) i.now.rd (run.first + k) }
     ensures sat { result ≡ some_below run.count (λ k. word_saturates (reads i.now (view_of at.now) v.now.words) (run.first + k)) }
 {
     let mut sat = false;
-    for k in 0..run.count {
+    for k in done..run.count {
         let word = word_by(op, i, at, v, run.first + k);
         made[k as usize] = word.value;
         sat = either(sat, word.sat);
@@ -127,6 +138,7 @@ fn make_elements(
     at: &Setting,
     v: &VState,
     run: Run,
+    done: u32,
     made: &mut [u64],
 ) -> bool
     requires operation { Elem op ≡ i.now.op }
@@ -135,24 +147,27 @@ fn make_elements(
     requires within { (k : ℕ) → k < run.count → run.first + k < length (destination_words (reads i.now (view_of at.now) v.now.words)) }
     requires small { (k : ℕ) → k < run.count → run.first + k < 1024 }
     requires room { run.count ≤ length made.old }
+    requires done { done ≤ run.count }
+    requires made { (k : ℕ) → k < done → slice_index made.old k ≡ word_at at.now.vlen (words_after (reads i.now (view_of at.now) v.now.words)) i.now.rd (run.first + k) }
+    requires unsaturated { (k : ℕ) → k < done → word_saturates (reads i.now (view_of at.now) v.now.words) (run.first + k) ≡ false }
     ensures room { length made.new ≡ length made.old }
     ensures made { (k : ℕ) → k < run.count → slice_index made.new k ≡ word_at at.now.vlen (words_after (reads i.now (view_of at.now) v.now.words)) i.now.rd (run.first + k) }
     ensures sat { result ≡ some_below run.count (λ k. word_saturates (reads i.now (view_of at.now) v.now.words) (run.first + k)) }
 {
     match op {
-        ElemOp::VaddVv => make_of(Op::Elem(ElemOp::VaddVv), i, at, v, run, made),
-        ElemOp::VaddVx => make_of(Op::Elem(ElemOp::VaddVx), i, at, v, run, made),
-        ElemOp::VaddVi => make_of(Op::Elem(ElemOp::VaddVi), i, at, v, run, made),
-        ElemOp::VsubVv => make_of(Op::Elem(ElemOp::VsubVv), i, at, v, run, made),
-        ElemOp::VandVv => make_of(Op::Elem(ElemOp::VandVv), i, at, v, run, made),
-        ElemOp::VandVi => make_of(Op::Elem(ElemOp::VandVi), i, at, v, run, made),
-        ElemOp::VorVv => make_of(Op::Elem(ElemOp::VorVv), i, at, v, run, made),
-        ElemOp::VxorVv => make_of(Op::Elem(ElemOp::VxorVv), i, at, v, run, made),
-        ElemOp::VsllVi => make_of(Op::Elem(ElemOp::VsllVi), i, at, v, run, made),
-        ElemOp::VsrlVi => make_of(Op::Elem(ElemOp::VsrlVi), i, at, v, run, made),
-        ElemOp::VmulVv => make_of(Op::Elem(ElemOp::VmulVv), i, at, v, run, made),
-        ElemOp::VmaccVv => make_of(Op::Elem(ElemOp::VmaccVv), i, at, v, run, made),
-        _ => make_of(Op::Elem(op), i, at, v, run, made),
+        ElemOp::VaddVv => make_of(Op::Elem(ElemOp::VaddVv), i, at, v, run, done, made),
+        ElemOp::VaddVx => make_of(Op::Elem(ElemOp::VaddVx), i, at, v, run, done, made),
+        ElemOp::VaddVi => make_of(Op::Elem(ElemOp::VaddVi), i, at, v, run, done, made),
+        ElemOp::VsubVv => make_of(Op::Elem(ElemOp::VsubVv), i, at, v, run, done, made),
+        ElemOp::VandVv => make_of(Op::Elem(ElemOp::VandVv), i, at, v, run, done, made),
+        ElemOp::VandVi => make_of(Op::Elem(ElemOp::VandVi), i, at, v, run, done, made),
+        ElemOp::VorVv => make_of(Op::Elem(ElemOp::VorVv), i, at, v, run, done, made),
+        ElemOp::VxorVv => make_of(Op::Elem(ElemOp::VxorVv), i, at, v, run, done, made),
+        ElemOp::VsllVi => make_of(Op::Elem(ElemOp::VsllVi), i, at, v, run, done, made),
+        ElemOp::VsrlVi => make_of(Op::Elem(ElemOp::VsrlVi), i, at, v, run, done, made),
+        ElemOp::VmulVv => make_of(Op::Elem(ElemOp::VmulVv), i, at, v, run, done, made),
+        ElemOp::VmaccVv => make_of(Op::Elem(ElemOp::VmaccVv), i, at, v, run, done, made),
+        _ => make_of(Op::Elem(op), i, at, v, run, done, made),
     }
 }
 
@@ -163,6 +178,7 @@ fn make_permuted(
     at: &Setting,
     v: &VState,
     run: Run,
+    done: u32,
     made: &mut [u64],
 ) -> bool
     requires operation { Perm op ≡ i.now.op }
@@ -171,18 +187,52 @@ fn make_permuted(
     requires within { (k : ℕ) → k < run.count → run.first + k < length (destination_words (reads i.now (view_of at.now) v.now.words)) }
     requires small { (k : ℕ) → k < run.count → run.first + k < 1024 }
     requires room { run.count ≤ length made.old }
+    requires done { done ≤ run.count }
+    requires made { (k : ℕ) → k < done → slice_index made.old k ≡ word_at at.now.vlen (words_after (reads i.now (view_of at.now) v.now.words)) i.now.rd (run.first + k) }
+    requires unsaturated { (k : ℕ) → k < done → word_saturates (reads i.now (view_of at.now) v.now.words) (run.first + k) ≡ false }
     ensures room { length made.new ≡ length made.old }
     ensures made { (k : ℕ) → k < run.count → slice_index made.new k ≡ word_at at.now.vlen (words_after (reads i.now (view_of at.now) v.now.words)) i.now.rd (run.first + k) }
     ensures sat { result ≡ some_below run.count (λ k. word_saturates (reads i.now (view_of at.now) v.now.words) (run.first + k)) }
 {
     match op {
-        PermOp::VrgatherVv => make_of(Op::Perm(PermOp::VrgatherVv), i, at, v, run, made),
-        PermOp::VslideupVi => make_of(Op::Perm(PermOp::VslideupVi), i, at, v, run, made),
-        PermOp::VslidedownVi => make_of(Op::Perm(PermOp::VslidedownVi), i, at, v, run, made),
-        PermOp::VslidedownVx => make_of(Op::Perm(PermOp::VslidedownVx), i, at, v, run, made),
-        PermOp::Vslide1upVx => make_of(Op::Perm(PermOp::Vslide1upVx), i, at, v, run, made),
-        PermOp::Vslide1downVx => make_of(Op::Perm(PermOp::Vslide1downVx), i, at, v, run, made),
-        _ => make_of(Op::Perm(op), i, at, v, run, made),
+        PermOp::VrgatherVv => make_of(Op::Perm(PermOp::VrgatherVv), i, at, v, run, done, made),
+        PermOp::VslideupVi => make_of(Op::Perm(PermOp::VslideupVi), i, at, v, run, done, made),
+        PermOp::VslidedownVi => make_of(Op::Perm(PermOp::VslidedownVi), i, at, v, run, done, made),
+        PermOp::VslidedownVx => make_of(Op::Perm(PermOp::VslidedownVx), i, at, v, run, done, made),
+        PermOp::Vslide1upVx => make_of(Op::Perm(PermOp::Vslide1upVx), i, at, v, run, done, made),
+        PermOp::Vslide1downVx => make_of(
+            Op::Perm(PermOp::Vslide1downVx),
+            i,
+            at,
+            v,
+            run,
+            done,
+            made,
+        ),
+        _ => make_of(Op::Perm(op), i, at, v, run, done, made),
+    }
+}
+
+/// Makes the first words of a run whose elements are all active, where the row has a loop for such words. Answers how many.
+fn make_full(i: &Instr, at: &Setting, v: &VState, run: Run, made: &mut [u64]) -> u32
+    requires same { v.now.vlen ≡ at.now.vlen }
+    requires executable { IsExecutable i.now (view_of at.now) }
+    requires within { (k : ℕ) → k < run.count → run.first + k < length (destination_words (reads i.now (view_of at.now) v.now.words)) }
+    requires room { run.count ≤ length made.old }
+    ensures most { result ≤ run.count }
+    ensures room { length made.new ≡ length made.old }
+    ensures made { (k : ℕ) → k < result → slice_index made.new k ≡ word_at at.now.vlen (words_after (reads i.now (view_of at.now) v.now.words)) i.now.rd (run.first + k) }
+    ensures unsaturated { (k : ℕ) → k < result → word_saturates (reads i.now (view_of at.now) v.now.words) (run.first + k) ≡ false }
+{
+    if run.first > 0 {
+        return 0;
+    }
+    reads_soundly(i, at, v);
+    let regs = places(i);
+    match i.op {
+        Op::Elem(_) => vx_elem::full_words(i.op, v.words(), at, &regs, run.count, made),
+        Op::Mask(_) => vx_mask::full_words(i.op, v.words(), at, &regs, run.count, made),
+        _ => 0,
     }
 }
 
@@ -197,10 +247,53 @@ fn make(i: &Instr, at: &Setting, v: &VState, run: Run, made: &mut [u64]) -> bool
     ensures made { (k : ℕ) → k < run.count → slice_index made.new k ≡ word_at at.now.vlen (words_after (reads i.now (view_of at.now) v.now.words)) i.now.rd (run.first + k) }
     ensures sat { result ≡ some_below run.count (λ k. word_saturates (reads i.now (view_of at.now) v.now.words) (run.first + k)) }
 {
+    let done = make_full(i, at, v, run, made);
     match i.op {
-        Op::Elem(op) => make_elements(op, i, at, v, run, made),
-        Op::Perm(op) => make_permuted(op, i, at, v, run, made),
-        _ => make_of(i.op, i, at, v, run, made),
+        Op::Elem(op) => make_elements(op, i, at, v, run, done, made),
+        Op::Perm(op) => make_permuted(op, i, at, v, run, done, made),
+        _ => make_of(i.op, i, at, v, run, done, made),
+    }
+}
+
+/// A word of a register.
+#[derive(Clone, Copy, PartialEq, Eq, Debug)]
+struct Spot {
+    register: u8,
+    w: u32,
+}
+
+/// Where word `w` of the group that begins at a register stands, of registers of so many words.
+#[inline(always)]
+fn spot_of(per_register: u32, register: u8, w: u32) -> Spot
+    requires some { 0 < per_register }
+    requires below { register * per_register + w < 32 * per_register }
+    ensures is { result.register * per_register + result.w ≡ register * per_register + w }
+    ensures within { result.w < per_register }
+{
+    Spot {
+        register: register + (w / per_register) as u8,
+        w: w % per_register,
+    }
+}
+
+/// The word behind a word.
+#[inline(always)]
+fn behind(per_register: u32, at: Spot) -> Spot
+    requires within { at.w < per_register }
+    requires register { at.register < 32 }
+    ensures is { result.register * per_register + result.w ≡ at.register * per_register + at.w + 1 }
+    ensures within { result.w < per_register }
+{
+    if at.w + 1 < per_register {
+        Spot {
+            register: at.register,
+            w: at.w + 1,
+        }
+    } else {
+        Spot {
+            register: at.register + 1,
+            w: 0,
+        }
     }
 }
 
@@ -212,17 +305,13 @@ fn put(v: &mut VState, register: u8, run: Run, words: &[u64])
     requires room { run.count ≤ length words.now }
     ensures { v.new ≡ record v.old { words = with_words v.old.vlen v.old.words register run.first (slice_index words.now) run.count } }
 {
-    for k in 0..run.count {
-        put_group_word(v, register, run.first + k, words[k as usize]);
+    if run.count == 0 {
+        return;
     }
-}
-
-/// Sets word `w` of the group that begins at a register.
-#[inline(always)]
-fn put_group_word(v: &mut VState, register: u8, w: u32, value: u64)
-    requires { place_of v.old.vlen register w < words_of_all v.old.vlen }
-    ensures { v.new ≡ record v.old { words = with_word v.old.vlen v.old.words register w value } }
-{
     let per_register = v.vlen() / 64;
-    v.put_word(register + (w / per_register) as u8, w % per_register, value);
+    let mut at = spot_of(per_register, register, run.first);
+    for k in 0..run.count {
+        v.put_word(at.register, at.w, words[k as usize]);
+        at = behind(per_register, at);
+    }
 }

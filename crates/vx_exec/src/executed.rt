@@ -23,7 +23,7 @@ pub fn instructions_read()
 
 /// Where an instruction has its operands.
 #[inline(always)]
-fn places(i: &Instr) -> Places
+pub(crate) fn places(i: &Instr) -> Places
     ensures { result ≡ places_of i.now }
 {
     Places {

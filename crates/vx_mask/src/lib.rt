@@ -7,6 +7,7 @@
 #![tactic(auto)]
 
 mod form;
+mod full;
 mod indexed;
 mod kinds;
 mod logic;
@@ -16,5 +17,6 @@ mod span;
 mod told;
 mod words;
 
+pub use full::full_words;
 pub use told::count;
 pub use words::word;

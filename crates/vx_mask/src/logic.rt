@@ -17,7 +17,7 @@ use vx_vstate::{Setting, WordFile};
 
 /// What mask logic makes of two words of bits.
 #[inline(always)]
-fn bits_of(family: Family, a: u64, b: u64) -> u64
+pub(crate) fn bits_of(family: Family, a: u64, b: u64) -> u64
     requires { IsTrue (is_logic family) }
     ensures { (n : Numbers) (k : ℕ) → k < 64 → n.a ≡ lane 1 a k → n.b ≡ lane 1 b k → lane 1 result k ≡ (answer family n).value }
 {

@@ -8,3 +8,4 @@ pub mod Counts
 pub mod Packings
 pub mod Halves
 pub mod Compared
+pub mod Filled

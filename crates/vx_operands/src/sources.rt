@@ -59,7 +59,7 @@ pub fn part<S: WordFile>(
 
 /// A number of an instruction as one of 64 bits.
 #[inline(always)]
-fn number(imm: i64) -> u64
+pub(crate) fn number(imm: i64) -> u64
     ensures { result ≡ reduced 64 imm }
 {
     imm.cast_unsigned()

@@ -6,11 +6,13 @@ use Rattle.vx_vector.specs.Arithmetic.{words_after}
 use Rattle.vx_vector.specs.Laws.{word_saturates}
 use Rattle.vx_vstate.specs.Registers.{word_at}
 use Rattle.vx_vstate.specs.Views.{view_of}
-use Rattle.vx_exec.proofs.Puts.{IsMadeBelow, made-none, made-more}
+use Rattle.vx_exec.proofs.Puts.{IsMadeBelow, made-before, made-more}
 use Rattle.vx_exec.proofs.calculator.make_of.Goals as goal
 
 pub loop-k-init : goal.loop-k-init
-loop-k-init c = made-none _ _ c.args.made.now
+loop-k-init c =
+    let r = reads c.args.i.now (view_of c.args.at.now) c.args.v.now.words in
+    made-before (λ k. word_at c.args.at.now.vlen (words_after r) c.args.i.now.rd (c.args.run.first + k)) (λ k. word_saturates r (c.args.run.first + k)) c.args.done c.args.made.now c.requires.made c.requires.unsaturated
 
 pub word_by-word-requires-clause-within : goal.word_by-word-requires-clause-within
 word_by-word-requires-clause-within c = c.requires.within c.loop-k.k c.loop-k-test.true
