@@ -1,10 +1,10 @@
 ghost use Rattle.vx_vstate.specs.Views.{view_of};
-ghost use Rattle.std.specs.Prelude.{IsTrue, ◌≡◌, ℕ, ◌+◌, ◌-◌, ◌*◌, ◌/◌, ◌%◌, ◌^◌, ◌<◌, ◌==◌, if◌then◌else◌, length, nat_lt, Option, Some};
+ghost use Rattle.std.specs.Prelude.{IsTrue, ◌≡◌, ℕ, ◌+◌, ◌-◌, ◌*◌, ◌/◌, ◌%◌, ◌^◌, ◌<◌, ◌≤◌, ◌==◌, ◌&&◌, if◌then◌else◌, length, nat_le, nat_lt, true, List, Option, Some};
 ghost use Rattle.vx_bits.specs.Width.{is_width};
 ghost use Rattle.vx_decode.specs.Groups.{width_of};
-ghost use Rattle.vx_operands.specs.Forms.{reading};
+ghost use Rattle.vx_operands.specs.Forms.{is_unmasked, reading};
 ghost use Rattle.vx_operands.specs.Rising.{moved_by};
-ghost use Rattle.vx_perm.specs.Kinds.{IsIndexed, is_gather, is_move, is_slide};
+ghost use Rattle.vx_perm.specs.Kinds.{IsIndexed, IsRun, is_gather, is_move, is_slide};
 ghost use Rattle.vx_rows.specs.Families.{operands_of};
 ghost use Rattle.vx_rows.specs.declared.family.Operand.TheVariants.{Single};
 ghost use Rattle.vx_vector.specs.Laws.{IsSound, made_word, word_saturates};
@@ -16,10 +16,12 @@ ghost use Rattle.vx_vstate.specs.Registers.{element_word, is_element_width, plac
 ghost use Rattle.vx_vstate.specs.Vtype.{vlmax};
 
 use crate::elements::{element_at, number, source};
+use crate::runs::{are_active, elements_from, run_of};
 use vx_bits::low;
 use vx_operands::{Form, moved_by_index};
+use vx_packed::joined_by_elements;
 use vx_rows::{Family, First};
-use vx_vector::{Places, Word};
+use vx_vector::{Places, Word, elements_are_lanes};
 use vx_vstate::{Setting, WordFile};
 
 /// Whether a family is one of slides.
@@ -311,8 +313,8 @@ fn slid_by_family<S: WordFile>(
 }
 
 /// The same. Each width stands as a literal, so that the loop over a word's lanes is one at a known width.
-#[inline(always)]
-pub(crate) fn slid_word<S: WordFile>(
+#[inline(never)]
+fn slid_by_lanes<S: WordFile>(
     form: Form,
     file: &S,
     at: &Setting,
@@ -335,6 +337,63 @@ pub(crate) fn slid_word<S: WordFile>(
         16 => slid_by_family(form, file, at, regs, 16, w),
         32 => slid_by_family(form, file, at, regs, 32, w),
         _ => slid_by_family(form, file, at, regs, sew, w),
+    }
+}
+
+/// From which element of vs2 on all elements of a word of a slide are taken, where all are active and taken from there. The
+/// first of them is element `first`, and there are `count`.
+#[inline(always)]
+fn whole_run(
+    form: Form,
+    at: &Setting,
+    regs: &Places,
+    most: u32,
+    first: u32,
+    count: u32,
+) -> Option<u32>
+    requires slides { IsTrue (is_slide form.family) }
+    requires most { most ≡ vlmax at.now.vlen at.now.vtype }
+    requires few_elements { at.now.vl ≤ most }
+    requires small { first + count < 4294967296 }
+    ensures run { (words : List ℕ) (from : ℕ) → result ≡ Some from → IsRun (reading form (view_of at.now) regs.now words) first count from }
+    ensures active { (words : List ℕ) (from : ℕ) → result ≡ Some from → (is_unmasked (reading form (view_of at.now) regs.now words) && nat_le at.now.vstart first && nat_le (first + count) at.now.vl) ≡ true }
+{
+    if are_active(form, at, regs, first, count) {
+        run_of(form, at, regs, most, first, count)
+    } else {
+        None
+    }
+}
+
+/// The same: a word of which all elements are active and stand in a row in vs2 is made of the two words there.
+#[inline(always)]
+pub(crate) fn slid_word<S: WordFile>(
+    form: Form,
+    file: &S,
+    at: &Setting,
+    regs: &Places,
+    sew: u32,
+    w: u32,
+) -> Word
+    requires same { S.vlen file.now ≡ at.now.vlen }
+    requires sound { IsSound (reading form (view_of at.now) regs.now (S.words file.now)) }
+    requires kind { IsTrue (is_slide form.family) }
+    requires vs2 { (operands_of form.family).vs2 ≡ Single }
+    requires sew { sew ≡ sew_of (reading form (view_of at.now) regs.now (S.words file.now)) }
+    requires width { IsTrue (is_width sew) }
+    requires within { w < length (destination_words (reading form (view_of at.now) regs.now (S.words file.now))) }
+    ensures value { result.value ≡ made_word (reading form (view_of at.now) regs.now (S.words file.now)) w }
+    ensures sat { result.sat ≡ word_saturates (reading form (view_of at.now) regs.now (S.words file.now)) w }
+{
+    joined_by_elements();
+    elements_are_lanes();
+    let per_word = 64 / sew;
+    match whole_run(form, at, regs, at.vlmax(), w * per_word, per_word) {
+        Some(from) => Word {
+            value: elements_from(file, at, regs.vs2, sew, from),
+            sat: false,
+        },
+        None => slid_by_lanes(form, file, at, regs, sew, w),
     }
 }
 
