@@ -432,7 +432,7 @@ fn gathered_by_index<S: WordFile>(
 }
 
 /// The same. Each width stands as a literal.
-#[inline(always)]
+#[inline(never)]
 pub(crate) fn gathered_word<S: WordFile>(
     form: Form,
     file: &S,
