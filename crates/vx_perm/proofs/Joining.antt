@@ -1,5 +1,5 @@
 -- Elements that stand in a row in the source and go into one word.
-use Rattle.std.proofs.Common.{◌≡◌, ℕ, suc, List, ◌+◌, ◌-◌, ◌*◌, ◌/◌, ◌%◌, ◌^◌, ◌<◌, ◌≤◌, Bool, true, ◌&&◌, ◌||◌, IsTrue, nat_eq, leb, ltb, if◌then◌else◌, sym, ap, ◌∙◌, subst, ⊎_elim, arith, pow_pos, mod-lt, mod-eq_of_lt, mul-le-mul_right, Some, unwrap_or}
+use Rattle.std.proofs.Common.{◌≡◌, ℕ, suc, List, ◌+◌, ◌-◌, ◌*◌, ◌/◌, ◌%◌, ◌^◌, ◌<◌, ◌≤◌, Bool, true, ◌&&◌, ◌||◌, IsTrue, nat_eq, leb, ltb, if◌then◌else◌, refl, sym, ap, ◌∙◌, subst, ⊎_elim, arith, pow_pos, mod-lt, mod-eq_of_lt, mul-le-mul_right, Some, unwrap_or}
 use Rattle.std.proofs.lemmas.Bool.{cases_lt, and_parts}
 use Rattle.std.proofs.lemmas.Bool.Decides.{nat_tests}
 use Rattle.std.proofs.lemmas.Nat.{mod-pow-add}
@@ -9,16 +9,26 @@ use Rattle.std.specs.Int.Bits.{bit_or}
 use Rattle.vx_base.specs.Numbers.{field}
 use Rattle.vx_bits.specs.Width.{is_width}
 use Rattle.vx_packed.specs.Joined.{lane, joined}
-use Rattle.vx_vstate.specs.Registers.{element, element_word, element_bit, is_element_width, word_at}
-use Rattle.vx_vector.specs.Laws.{made_word}
-use Rattle.vx_vector.specs.Reading.{Reading, count_of, destination_width, is_active, lists_of, mask_bit}
+use Rattle.vx_vstate.specs.Registers.{element, element_word, element_bit, is_element_width, place_of, word_at, words_of_all}
+use Rattle.vx_vector.specs.Laws.{IsPlaced, made_word}
+use Rattle.vx_vector.specs.Reading.{Reading, count_of, destination_width, element_of, is_active, lists_of, mask_bit, sew_of, vs1_width}
 use Rattle.vx_vector.specs.Rules.{rule_of}
 use Rattle.vx_operands.specs.Forms.{is_unmasked}
 use Rattle.vx_operands.specs.Rising.{is_by_index, moved_by}
-use Rattle.vx_operands.proofs.ByIndex.{Lanes, is_below, moved_value}
+use Rattle.vx_operands.proofs.ByIndex.{Lanes, is_below, moved_value, one_lane}
 use Rattle.vx_operands.proofs.Merging.{Same, Whole, full_bit}
-use Rattle.vx_operands.proofs.Places.{filled, in_one, lane_shifted}
+use Rattle.vx_operands.proofs.Places.{filled, first_word, in_one, lane_shifted}
 use Rattle.vx_packed.proofs.Masks.{or_above}
+use Rattle.vx_decode.specs.Groups.{width_of}
+use Rattle.vx_rows.specs.Families.{operands_of}
+use Rattle.vx_rows.specs.declared.family.Family.{Family}
+use Rattle.vx_rows.specs.declared.family.Family.TheVariants.{Vrgather}
+use Rattle.vx_rows.specs.declared.row.First.TheVariants.{Vector}
+use Rattle.vx_vstate.specs.State.{IsSetting}
+use Rattle.vx_vector.specs.Lists.{gather_index}
+use Rattle.vx_vector.specs.Words.{vs1_operand}
+use Rattle.vx_perm.proofs.Facts.{index_is, index_place}
+use Rattle.vx_perm.specs.Kinds.{IsIndexed}
 
 -- ---- bits across two words
 
@@ -205,3 +215,42 @@ moved_whole same lanes r w width old f by e is_width few active is moves =
     ap (λ (b : Bool). if b then unwrap_or (moved_by (rule_of r.family) (lists_of r) (w * (64 / width) + k)) (lane width old k) else lane width old k) (full_bit k (omega (arith, l, few)))
     ∙ ap (λ o. unwrap_or o (lane width old k)) (moves k l))))
     ∙ moved_value same lanes r w width (2 ^ 64 - 1) old by e is_width (λ k l. full_bit k (omega (arith, l, few)) ∙ sym (active k l)) is
+
+-- ---- one lane after another
+
+-- a word has the first k lanes of f, and nothing above
+pub record AreFirst (width k value : ℕ) (f : ℕ → ℕ) : Type 0 where
+  pub below : value < 2 ^ (k * width)
+  pub is : value ≡ joined width k f
+
+none_joined : (width : ℕ) (f : ℕ → ℕ) → joined width 0 f ≡ 0
+unfolding joined
+none_joined width f = refl
+
+pub first_none : (width : ℕ) (f : ℕ → ℕ) → AreFirst width 0 0 f
+first_none width f = record { below = pow_pos (0 * width); is = sym (none_joined width f) }
+
+pub first_more : (width k value next lowest result : ℕ) (f : ℕ → ℕ) → AreFirst width k value f → next ≡ f k → lowest ≡ next % 2 ^ width → ((g : ℕ → ℕ) → value ≡ joined width k g → lowest ≡ joined width 1 (λ j. g (k + j)) → result ≡ joined width (k + 1) g) → result < 2 ^ ((k + 1) * width) → AreFirst width (k + 1) result f
+first_more width k value next lowest result f so_far is low joins below =
+    let same : k + 0 ≡ k = omega arith in
+    record {
+      below = below;
+      is = joins f so_far.is (one_lane width lowest (λ j. f (k + j)) (low ∙ ap (λ m. m % 2 ^ width) (is ∙ sym (ap f same))));
+    }
+
+-- ---- the indices of a word
+
+-- a gather's index is a lane of the word of vs1
+pub index_lane : Lanes → (r : Reading) (w sew word k : ℕ) → IsSetting r.at → IsIndexed r → r.family ≡ Vrgather → r.first ≡ Vector → sew ≡ sew_of r → IsTrue (is_element_width sew) → word ≡ word_at r.at.vlen r.words r.places.vs1 w → k < 64 / sew → w * (64 / sew) + k < r.at.vl → lane sew word k ≡ gather_index (lists_of r) (w * (64 / sew) + k)
+index_lane lanes r w sew word k setting indexed family v e width is l below =
+    let even : sew ≡ vs1_width r = e ∙ sym (ap (λ (f : Family). width_of (operands_of f).vs1 (sew_of r)) family) in
+    ap (λ x. lane sew x k) is
+    ∙ sym (lanes r.at.vlen r.words r.places.vs1 sew w k width l)
+    ∙ ap (λ s. element_of r r.places.vs1 s (w * (64 / sew) + k)) even
+    ∙ index_is r (w * (64 / sew) + k) setting indexed v below
+
+pub index_word : (r : Reading) (w sew : ℕ) → IsSetting r.at → IsIndexed r → r.family ≡ Vrgather → r.first ≡ Vector → sew ≡ sew_of r → IsTrue (is_width sew) → IsPlaced r (vs1_operand r) r.places.vs1 → w * (64 / sew) < r.at.vl → place_of r.at.vlen r.places.vs1 w < words_of_all r.at.vlen
+index_word r w sew setting indexed family v e width placed below =
+    let even : sew ≡ vs1_width r = e ∙ sym (ap (λ (f : Family). width_of (operands_of f).vs1 (sew_of r)) family) in
+    let word : element_word (vs1_width r) (w * (64 / sew)) ≡ w = ap (λ s. element_word s (w * (64 / sew))) (sym even) ∙ first_word sew w width in
+    subst (λ n. place_of r.at.vlen r.places.vs1 n < words_of_all r.at.vlen) word (index_place r (w * (64 / sew)) setting indexed v placed below)

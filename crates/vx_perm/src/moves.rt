@@ -5,7 +5,10 @@ ghost use Rattle.vx_decode.specs.Groups.{width_of};
 ghost use Rattle.vx_operands.specs.Forms.{is_unmasked, reading};
 ghost use Rattle.vx_operands.specs.Rising.{moved_by};
 ghost use Rattle.vx_perm.specs.Kinds.{IsIndexed, IsRun, is_gather, is_move, is_slide};
+ghost use Rattle.vx_packed.specs.Joined.{joined, lane};
 ghost use Rattle.vx_rows.specs.Families.{operands_of};
+ghost use Rattle.vx_rows.specs.declared.family.Family.TheVariants.{Vrgather};
+ghost use Rattle.vx_rows.specs.declared.row.First.TheVariants.{Vector};
 ghost use Rattle.vx_rows.specs.declared.family.Operand.TheVariants.{Single};
 ghost use Rattle.vx_vector.specs.Laws.{IsSound, made_word, word_saturates};
 ghost use Rattle.vx_vector.specs.Lists.{element_or_zero, gather_index, slid_up};
@@ -18,8 +21,8 @@ ghost use Rattle.vx_vstate.specs.Vtype.{vlmax};
 use crate::elements::{element_at, number, source};
 use crate::runs::{are_active, elements_from, run_of};
 use vx_bits::low;
-use vx_operands::{Form, moved_by_index};
-use vx_packed::joined_by_elements;
+use vx_operands::{Form, group_word, lane_at, moved_by_index};
+use vx_packed::{beside, joined_by_elements};
 use vx_rows::{Family, First};
 use vx_vector::{Places, Word, elements_are_lanes};
 use vx_vstate::{Setting, WordFile};
@@ -433,7 +436,7 @@ fn gathered_by_index<S: WordFile>(
 
 /// The same. Each width stands as a literal.
 #[inline(never)]
-pub(crate) fn gathered_word<S: WordFile>(
+fn gathered_by_lanes<S: WordFile>(
     form: Form,
     file: &S,
     at: &Setting,
@@ -457,5 +460,112 @@ pub(crate) fn gathered_word<S: WordFile>(
         16 => gathered_by_index(form, file, at, regs, 16, w),
         32 => gathered_by_index(form, file, at, regs, 32, w),
         _ => gathered_by_index(form, file, at, regs, sew, w),
+    }
+}
+
+/// Whether a row is a gather whose indices stand in a register and have SEW.
+#[inline(always)]
+fn is_even_gather(form: Form) -> bool
+    ensures family { result ≡ true → form.family ≡ Vrgather }
+    ensures register { result ≡ true → form.first ≡ Vector }
+{
+    match form.family {
+        Family::Vrgather => match form.first {
+            First::Vector => true,
+            First::Integer => false,
+            First::Signed => false,
+            First::Unsigned => false,
+            First::Fixed => false,
+        },
+        _ => false,
+    }
+}
+
+/// The elements of vs2 at the indices in a word, as many as there are in it.
+#[inline(always)]
+fn gathered_lanes<S: WordFile>(
+    form: Form,
+    file: &S,
+    at: &Setting,
+    regs: &Places,
+    sew: u32,
+    most: u32,
+    indices: u64,
+) -> u64
+    requires same { S.vlen file.now ≡ at.now.vlen }
+    requires sound { IsSound (reading form (view_of at.now) regs.now (S.words file.now)) }
+    requires vs2 { (operands_of form.family).vs2 ≡ Single }
+    requires sew { sew ≡ sew_of (reading form (view_of at.now) regs.now (S.words file.now)) }
+    requires width { IsTrue (is_width sew) }
+    requires most { most ≡ vlmax at.now.vlen at.now.vtype }
+    ensures { result ≡ joined sew (64 / sew) (λ k. element_or_zero (lists_of (reading form (view_of at.now) regs.now (S.words file.now))) (lane sew indices k)) }
+{
+    let mut value = 0;
+    for k in 0..64 / sew {
+        let index = lane_at(sew, indices, k);
+        let next = source(form, file, at, regs, sew, most, index);
+        value = beside(sew, k, value, 1, low(sew, next));
+    }
+    value
+}
+
+/// Word `w` of the destination of a gather, where all its elements are active, and their indices stand in word `w` of vs1.
+#[inline(always)]
+fn gathered_whole<S: WordFile>(
+    form: Form,
+    file: &S,
+    at: &Setting,
+    regs: &Places,
+    sew: u32,
+    w: u32,
+) -> u64
+    requires same { S.vlen file.now ≡ at.now.vlen }
+    requires sound { IsSound (reading form (view_of at.now) regs.now (S.words file.now)) }
+    requires family { form.family ≡ Vrgather }
+    requires register { form.first ≡ Vector }
+    requires group { IsIndexed (reading form (view_of at.now) regs.now (S.words file.now)) }
+    requires vs2 { (operands_of form.family).vs2 ≡ Single }
+    requires sew { sew ≡ sew_of (reading form (view_of at.now) regs.now (S.words file.now)) }
+    requires width { IsTrue (is_width sew) }
+    requires below { w * (64 / sew) + 64 / sew ≤ at.now.vl }
+    ensures { result ≡ joined sew (64 / sew) (λ k. element_or_zero (lists_of (reading form (view_of at.now) regs.now (S.words file.now))) (gather_index (lists_of (reading form (view_of at.now) regs.now (S.words file.now))) (w * (64 / sew) + k))) }
+{
+    joined_by_elements();
+    elements_are_lanes();
+    let indices = group_word(file, at, regs.vs1, w);
+    gathered_lanes(form, file, at, regs, sew, at.vlmax(), indices)
+}
+
+/// The same: the indices of a word of which all elements are active are read at once.
+#[inline(always)]
+pub(crate) fn gathered_word<S: WordFile>(
+    form: Form,
+    file: &S,
+    at: &Setting,
+    regs: &Places,
+    sew: u32,
+    w: u32,
+) -> Word
+    requires same { S.vlen file.now ≡ at.now.vlen }
+    requires sound { IsSound (reading form (view_of at.now) regs.now (S.words file.now)) }
+    requires kind { IsTrue (is_gather form.family) }
+    requires group { IsIndexed (reading form (view_of at.now) regs.now (S.words file.now)) }
+    requires vs2 { (operands_of form.family).vs2 ≡ Single }
+    requires sew { sew ≡ sew_of (reading form (view_of at.now) regs.now (S.words file.now)) }
+    requires width { IsTrue (is_width sew) }
+    requires within { w < length (destination_words (reading form (view_of at.now) regs.now (S.words file.now))) }
+    ensures value { result.value ≡ made_word (reading form (view_of at.now) regs.now (S.words file.now)) w }
+    ensures sat { result.sat ≡ word_saturates (reading form (view_of at.now) regs.now (S.words file.now)) w }
+{
+    joined_by_elements();
+    elements_are_lanes();
+    let per_word = 64 / sew;
+    if is_even_gather(form) && are_active(form, at, regs, w * per_word, per_word) {
+        Word {
+            value: gathered_whole(form, file, at, regs, sew, w),
+            sat: false,
+        }
+    } else {
+        gathered_by_lanes(form, file, at, regs, sew, w)
     }
 }
