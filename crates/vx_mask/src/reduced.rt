@@ -287,7 +287,7 @@ fn even_by_family<S: WordFile>(
 }
 
 /// The same. Each width stands as a literal, so that the loop over a word's lanes is one at a known width.
-#[inline(always)]
+#[inline(never)]
 pub(crate) fn even_reduction<S: WordFile>(
     form: Form,
     file: &S,
@@ -335,7 +335,7 @@ fn with_signed(sew: u32, width: u32, sum: u64, x: u64) -> u64
 }
 
 /// Word `w` of the destination of a reduction at twice SEW.
-#[inline(always)]
+#[inline(never)]
 pub(crate) fn wide_reduction<S: WordFile>(
     form: Form,
     file: &S,
