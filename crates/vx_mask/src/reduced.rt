@@ -1,5 +1,5 @@
 ghost use Rattle.vx_vstate.specs.Views.{view_of};
-ghost use Rattle.std.specs.Prelude.{IsTrue, ◌≡◌, ℕ, pos, ◌+ℤ◌, if◌then◌else◌, ◌+◌, ◌*◌, ◌/◌, ◌<◌, ◌≤◌, ◌==◌, length};
+ghost use Rattle.std.specs.Prelude.{IsTrue, true, List, ◌≡◌, ℕ, pos, ◌+ℤ◌, if◌then◌else◌, ◌+◌, ◌*◌, ◌/◌, ◌<◌, ◌≤◌, ◌==◌, length};
 ghost use Rattle.vx_base.specs.Numbers.{reduced};
 ghost use Rattle.vx_bits.specs.Width.{is_width, signed_at};
 ghost use Rattle.vx_mask.specs.Kinds.{AreReduced, is_even_reduction, is_wide_reduction};
@@ -17,8 +17,8 @@ ghost use Rattle.vx_vector.specs.Words.{destination_words};
 
 use vx_bits::{add_at, low, reduce, signed_reading};
 use vx_operands::{
-    Form, active_word, first_set, greater, group_word, is_bit_set, lane_at, lesser, unchanged,
-    writes_first,
+    Form, active_word, first_set, greater, group_word, is_bit_set, is_unmasked, lane_at, lesser,
+    unchanged, writes_first,
 };
 use vx_rows::Family;
 use vx_vector::{Places, Word, elements_are_lanes};
@@ -64,6 +64,102 @@ fn joined_word<F: Fn(Terms) -> u64>(width: u32, active: u64, word: u64, start: u
     sum
 }
 
+/// What a sum comes to by all elements of a word, in rising order.
+#[inline(always)]
+fn folded_word<F: Fn(Terms) -> u64>(width: u32, word: u64, start: u64, f: &F) -> u64
+    requires width { IsTrue (is_width width) }
+    requires callable { (t : Terms) → F.pre f.now t }
+    ensures { (g : ℕ → ℕ → ℕ) → ((t : Terms) (v : ℕ) → F.post f.now t v → v ≡ g t.sum t.x) → result ≡ joined_below g start (λ k. true) (λ k. lane width word k) (64 / width) }
+{
+    let mut sum = start;
+    for k in 0..64 / width {
+        let x = lane_at(width, word, k);
+        sum = f(Terms { sum, x });
+    }
+    sum
+}
+
+/// How many words, from the first on, have only active elements; none where elements are masked or the first isn't active.
+#[inline(always)]
+fn whole_words(form: Form, at: &Setting, regs: &Places, per_word: u32) -> u32
+    requires elements { whole_registers (operands_of form.family).destination ≡ 0 }
+    requires some { 0 < per_word }
+    ensures most { result * per_word ≤ at.now.vl }
+    ensures active { (words : List ℕ) (i : ℕ) → i < result * per_word → is_active (reading form (view_of at.now) regs.now words) i ≡ true }
+{
+    if is_unmasked(form, regs) && at.vstart == 0 {
+        at.vl / per_word
+    } else {
+        0
+    }
+}
+
+/// What a number comes to by the elements of the first words of vs2, all of which are active, in rising order.
+#[inline(always)]
+fn joined_whole<S: WordFile, F: Fn(Terms) -> u64>(
+    form: Form,
+    file: &S,
+    at: &Setting,
+    regs: &Places,
+    sew: u32,
+    words: u32,
+    start: u64,
+    f: &F,
+) -> u64
+    requires same { S.vlen file.now ≡ at.now.vlen }
+    requires sound { IsSound (reading form (view_of at.now) regs.now (S.words file.now)) }
+    requires elements { whole_registers (operands_of form.family).destination ≡ 0 }
+    requires vs2 { (operands_of form.family).vs2 ≡ Single }
+    requires sew { sew ≡ sew_of (reading form (view_of at.now) regs.now (S.words file.now)) }
+    requires width { IsTrue (is_width sew) }
+    requires small { at.now.vl ≤ 65536 }
+    requires most { words * (64 / sew) ≤ at.now.vl }
+    requires active { (i : ℕ) → i < words * (64 / sew) → is_active (reading form (view_of at.now) regs.now (S.words file.now)) i ≡ true }
+    requires callable { (t : Terms) → F.pre f.now t }
+    ensures { (g : ℕ → ℕ → ℕ) → ((t : Terms) (v : ℕ) → F.post f.now t v → v ≡ g t.sum t.x) → result ≡ joined_below g start (is_active (reading form (view_of at.now) regs.now (S.words file.now))) (element_of (reading form (view_of at.now) regs.now (S.words file.now)) regs.now.vs2 sew) (words * (64 / sew)) }
+{
+    elements_are_lanes();
+    let mut sum = start;
+    for w in 0..words {
+        let word = group_word(file, at, regs.vs2, w);
+        sum = folded_word(sew, word, sum, f);
+    }
+    sum
+}
+
+/// What the sum of the first words of vs2, so many, comes to by the active elements behind them, in rising order.
+#[inline(always)]
+fn joined_rest<S: WordFile, F: Fn(Terms) -> u64>(
+    form: Form,
+    file: &S,
+    at: &Setting,
+    regs: &Places,
+    sew: u32,
+    words: u32,
+    start: u64,
+    f: &F,
+) -> u64
+    requires same { S.vlen file.now ≡ at.now.vlen }
+    requires sound { IsSound (reading form (view_of at.now) regs.now (S.words file.now)) }
+    requires elements { whole_registers (operands_of form.family).destination ≡ 0 }
+    requires vs2 { (operands_of form.family).vs2 ≡ Single }
+    requires sew { sew ≡ sew_of (reading form (view_of at.now) regs.now (S.words file.now)) }
+    requires width { IsTrue (is_width sew) }
+    requires small { at.now.vl ≤ 65536 }
+    requires callable { (t : Terms) → F.pre f.now t }
+    ensures { (g : ℕ → ℕ → ℕ) → ((t : Terms) (v : ℕ) → F.post f.now t v → v ≡ g t.sum t.x) → (x : ℕ) → start ≡ joined_below g x (is_active (reading form (view_of at.now) regs.now (S.words file.now))) (element_of (reading form (view_of at.now) regs.now (S.words file.now)) regs.now.vs2 sew) (words * (64 / sew)) → result ≡ joined_below g x (is_active (reading form (view_of at.now) regs.now (S.words file.now))) (element_of (reading form (view_of at.now) regs.now (S.words file.now)) regs.now.vs2 sew) at.now.vl }
+{
+    elements_are_lanes();
+    let per_word = 64 / sew;
+    let mut sum = start;
+    for w in words..at.vl.div_ceil(per_word) {
+        let active = active_word(form, file, at, regs, per_word, w);
+        let word = group_word(file, at, regs.vs2, w);
+        sum = joined_word(sew, active, word, sum, f);
+    }
+    sum
+}
+
 /// What a number comes to by the active elements of vs2, in rising order.
 #[inline(always)]
 fn joined_all<S: WordFile, F: Fn(Terms) -> u64>(
@@ -85,15 +181,9 @@ fn joined_all<S: WordFile, F: Fn(Terms) -> u64>(
     requires callable { (t : Terms) → F.pre f.now t }
     ensures { (g : ℕ → ℕ → ℕ) → ((t : Terms) (v : ℕ) → F.post f.now t v → v ≡ g t.sum t.x) → result ≡ joined_below g start (is_active (reading form (view_of at.now) regs.now (S.words file.now))) (element_of (reading form (view_of at.now) regs.now (S.words file.now)) regs.now.vs2 sew) at.now.vl }
 {
-    elements_are_lanes();
-    let per_word = 64 / sew;
-    let mut sum = start;
-    for w in 0..at.vl.div_ceil(per_word) {
-        let active = active_word(form, file, at, regs, per_word, w);
-        let word = group_word(file, at, regs.vs2, w);
-        sum = joined_word(sew, active, word, sum, f);
-    }
-    sum
+    let words = whole_words(form, at, regs, 64 / sew);
+    let sum = joined_whole(form, file, at, regs, sew, words, start, f);
+    joined_rest(form, file, at, regs, sew, words, sum, f)
 }
 
 /// Word `w` of the destination of a reduction: element 0 is what that of vs1 comes to.
@@ -197,7 +287,7 @@ fn even_by_family<S: WordFile>(
 }
 
 /// The same. Each width stands as a literal, so that the loop over a word's lanes is one at a known width.
-#[inline(always)]
+#[inline(never)]
 pub(crate) fn even_reduction<S: WordFile>(
     form: Form,
     file: &S,
@@ -245,7 +335,7 @@ fn with_signed(sew: u32, width: u32, sum: u64, x: u64) -> u64
 }
 
 /// Word `w` of the destination of a reduction at twice SEW.
-#[inline(always)]
+#[inline(never)]
 pub(crate) fn wide_reduction<S: WordFile>(
     form: Form,
     file: &S,

@@ -1,13 +1,11 @@
 -- Elements at other indices, and those that a mask chooses.
-use Rattle.std.proofs.Common.{◌≡◌, ◌⊎◌, ℕ, zero, suc, List, [], ◌∷◌, ◌++◌, ◌+◌, ◌-◌, ◌*◌, ◌/◌, ◌%◌, ◌^◌, ◌<◌, ◌≤◌, Bool, true, false, not, ◌&&◌, ◌||◌, IsTrue, nat_eq, leb, ltb, if◌then◌else◌, map, take, length, get_or, refl, sym, ap, ◌∙◌, subst, ⊎_elim, inl, inr, arith, add-one, eq-eqb, pow_pos, length-append, Option, Some, None}
+use Rattle.std.proofs.Common.{◌≡◌, ◌⊎◌, ℕ, zero, suc, [], ◌∷◌, ◌++◌, ◌+◌, ◌-◌, ◌*◌, ◌/◌, ◌%◌, ◌^◌, ◌<◌, ◌≤◌, Bool, true, false, not, ◌&&◌, ◌||◌, IsTrue, nat_eq, leb, ltb, if◌then◌else◌, map, take, length, get_or, refl, sym, ap, ◌∙◌, subst, ⊎_elim, inl, inr, arith, eq-eqb, pow_pos, length-append, Some}
 use Rattle.std.specs.List.{range_with_len}
 use Rattle.std.proofs.Math.Seq.{get_or-append_seam}
-use Rattle.std.proofs.lemmas.Bool.{false≢true, cases_Bool, cases_lt, and_parts}
+use Rattle.std.proofs.lemmas.Bool.{false≢true, cases_lt}
 use Rattle.std.proofs.lemmas.Bool.Decides.{nat_tests}
 use Rattle.std.proofs.lemmas.List.{get_or_append_left, get_or_past}
 use Rattle.std.proofs.lemmas.List.FromFn.{get_or-map-range_with_len, length-map-range_with_len, take-map-range_with_len}
-use Rattle.vx_bits.specs.Width.{is_width}
-use Rattle.vx_bits.specs.declared.saturation.Sat.{Sat}
 use Rattle.vx_decode.specs.Groups.{width_of}
 use Rattle.vx_packed.specs.Joined.{lane, joined}
 use Rattle.vx_rows.specs.Families.{operands_of}
@@ -18,16 +16,16 @@ use Rattle.vx_rows.specs.declared.family.Operand.TheVariants.{Single, Mask}
 use Rattle.vx_rows.specs.declared.row.First.{First}
 use Rattle.vx_rows.specs.declared.row.First.TheVariants.{Vector}
 use Rattle.vx_operands.specs.declared.form.Form.{Form}
-use Rattle.vx_vstate.specs.Registers.{element, element_word, is_element_width, place_of, words_of_all, word_at}
+use Rattle.vx_vstate.specs.Registers.{element_word, is_element_width, place_of, words_of_all, word_at}
 use Rattle.vx_vstate.specs.State.{IsSetting}
 use Rattle.vx_vstate.specs.Vtype.{vlmax}
 use Rattle.vx_vector.specs.Arithmetic.{given, becomes, becomes_by, has_saturated}
-use Rattle.vx_vector.specs.Laws.{IsPlaced, is_absent, element_after, made_word, per_word, value_after, word_saturates}
+use Rattle.vx_vector.specs.Laws.{IsPlaced, element_after, made_word, per_word, value_after, word_saturates}
 use Rattle.vx_vector.specs.Lists.{Lists, chosen, element_or_zero, gather_index, packed}
 use Rattle.vx_vector.specs.Numbers.{plain}
 use Rattle.vx_vector.specs.Reading.{Reading, sew_of, destination_width, vs1_width, count_in, element_of, elements_of, elements_by, lists_of, number_by}
 use Rattle.vx_vector.specs.Rules.{rule_of}
-use Rattle.vx_vector.specs.Words.{registers_of_operand, vs1_operand, vs1_operand_by}
+use Rattle.vx_vector.specs.Words.{registers_of_operand, vs1_operand}
 use Rattle.vx_operands.specs.Rising.{count_below, is_by_index, moved_by}
 use Rattle.vx_operands.proofs.Places.{in_place}
 use Rattle.vx_operands.proofs.Even.{vl-le, vs1_is}

@@ -1,15 +1,17 @@
 -- The families of this crate by their kinds.
-use Rattle.std.specs.Prelude.{◌≡◌, ◌≤◌, ℕ, Bool, true, false, ◌||◌, ◌&&◌, ◌==◌}
+use Rattle.std.specs.Prelude.{◌≡◌, ◌≤◌, ◌<◌, ◌+◌, ℕ, Bool, true, false, ◌||◌, ◌&&◌, ◌==◌, Some}
 use Rattle.vx_rows.specs.declared.family.Family.{Family}
 use Rattle.vx_rows.specs.declared.family.Family.TheVariants.{Vrgather, Vrgatherei16, Vslideup, Vslidedown, Vslide1up, Vslide1down, VmvSX, Vcompress}
 use Rattle.vx_rows.specs.declared.op.Op.{Op}
 use Rattle.vx_rows.specs.declared.op.Op.TheVariants.{Perm}
 use Rattle.vx_rows.specs.declared.row.First.{First}
 use Rattle.vx_rows.specs.declared.row.First.TheVariants.{Vector}
-use Rattle.vx_operands.specs.Rising.{count_below}
+use Rattle.vx_operands.specs.Rising.{count_below, moved_by}
 use Rattle.vx_operands.specs.declared.form.Form.{Form}
 use Rattle.vx_perm.specs.declared.packs.Passed.{Passed}
-use Rattle.vx_vector.specs.Reading.{Reading, count_in, element_of}
+use Rattle.vx_vector.specs.Lists.{element_or_zero}
+use Rattle.vx_vector.specs.Reading.{Reading, count_in, element_of, lists_of}
+use Rattle.vx_vector.specs.Rules.{rule_of}
 use Rattle.vx_rows.specs.Families.{operands_of}
 use Rattle.vx_vstate.specs.Vtype.{vlmax}
 
@@ -65,3 +67,9 @@ pub record IsPassed (r : Reading) (target : ℕ) (passed : Passed) : Type 0 wher
   pub most : passed.elements ≤ r.at.vl
   pub chosen : passed.chosen ≡ count_below (chooses r) passed.elements
   pub few : passed.chosen ≤ target
+
+-- so many elements from element `first` on become those of vs2 from element `from` on, one behind another, and all of these
+-- are there
+pub record IsRun (r : Reading) (first count from : ℕ) : Type 0 where
+  pub within : from + count ≤ vlmax r.at.vlen r.at.vtype
+  pub moves : (k : ℕ) → k < count → moved_by (rule_of r.family) (lists_of r) (first + k) ≡ Some (element_or_zero (lists_of r) (from + k))

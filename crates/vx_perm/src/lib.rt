@@ -9,6 +9,7 @@ mod elements;
 mod form;
 mod moves;
 mod packs;
+mod runs;
 mod words;
 
 pub use words::word;

@@ -1,11 +1,14 @@
 ghost use Rattle.vx_vstate.specs.Views.{view_of};
-ghost use Rattle.std.specs.Prelude.{IsTrue, ◌≡◌, ℕ, ◌+◌, ◌-◌, ◌*◌, ◌/◌, ◌%◌, ◌^◌, ◌<◌, ◌==◌, if◌then◌else◌, length, nat_lt, Option, Some};
+ghost use Rattle.std.specs.Prelude.{IsTrue, ◌≡◌, ℕ, ◌+◌, ◌-◌, ◌*◌, ◌/◌, ◌%◌, ◌^◌, ◌<◌, ◌≤◌, ◌==◌, ◌&&◌, if◌then◌else◌, length, nat_le, nat_lt, true, List, Option, Some};
 ghost use Rattle.vx_bits.specs.Width.{is_width};
 ghost use Rattle.vx_decode.specs.Groups.{width_of};
-ghost use Rattle.vx_operands.specs.Forms.{reading};
+ghost use Rattle.vx_operands.specs.Forms.{is_unmasked, reading};
 ghost use Rattle.vx_operands.specs.Rising.{moved_by};
-ghost use Rattle.vx_perm.specs.Kinds.{IsIndexed, is_gather, is_move, is_slide};
+ghost use Rattle.vx_perm.specs.Kinds.{IsIndexed, IsRun, is_gather, is_move, is_slide};
+ghost use Rattle.vx_packed.specs.Joined.{joined, lane};
 ghost use Rattle.vx_rows.specs.Families.{operands_of};
+ghost use Rattle.vx_rows.specs.declared.family.Family.TheVariants.{Vrgather};
+ghost use Rattle.vx_rows.specs.declared.row.First.TheVariants.{Vector};
 ghost use Rattle.vx_rows.specs.declared.family.Operand.TheVariants.{Single};
 ghost use Rattle.vx_vector.specs.Laws.{IsSound, made_word, word_saturates};
 ghost use Rattle.vx_vector.specs.Lists.{element_or_zero, gather_index, slid_up};
@@ -16,10 +19,12 @@ ghost use Rattle.vx_vstate.specs.Registers.{element_word, is_element_width, plac
 ghost use Rattle.vx_vstate.specs.Vtype.{vlmax};
 
 use crate::elements::{element_at, number, source};
+use crate::runs::{are_active, elements_from, run_of};
 use vx_bits::low;
-use vx_operands::{Form, moved_by_index};
+use vx_operands::{Form, group_word, lane_at, moved_by_index};
+use vx_packed::{beside, joined_by_elements};
 use vx_rows::{Family, First};
-use vx_vector::{Places, Word};
+use vx_vector::{Places, Word, elements_are_lanes};
 use vx_vstate::{Setting, WordFile};
 
 /// Whether a family is one of slides.
@@ -311,8 +316,8 @@ fn slid_by_family<S: WordFile>(
 }
 
 /// The same. Each width stands as a literal, so that the loop over a word's lanes is one at a known width.
-#[inline(always)]
-pub(crate) fn slid_word<S: WordFile>(
+#[inline(never)]
+fn slid_by_lanes<S: WordFile>(
     form: Form,
     file: &S,
     at: &Setting,
@@ -335,6 +340,63 @@ pub(crate) fn slid_word<S: WordFile>(
         16 => slid_by_family(form, file, at, regs, 16, w),
         32 => slid_by_family(form, file, at, regs, 32, w),
         _ => slid_by_family(form, file, at, regs, sew, w),
+    }
+}
+
+/// From which element of vs2 on all elements of a word of a slide are taken, where all are active and taken from there. The
+/// first of them is element `first`, and there are `count`.
+#[inline(always)]
+fn whole_run(
+    form: Form,
+    at: &Setting,
+    regs: &Places,
+    most: u32,
+    first: u32,
+    count: u32,
+) -> Option<u32>
+    requires slides { IsTrue (is_slide form.family) }
+    requires most { most ≡ vlmax at.now.vlen at.now.vtype }
+    requires few_elements { at.now.vl ≤ most }
+    requires small { first + count < 4294967296 }
+    ensures run { (words : List ℕ) (from : ℕ) → result ≡ Some from → IsRun (reading form (view_of at.now) regs.now words) first count from }
+    ensures active { (words : List ℕ) (from : ℕ) → result ≡ Some from → (is_unmasked (reading form (view_of at.now) regs.now words) && nat_le at.now.vstart first && nat_le (first + count) at.now.vl) ≡ true }
+{
+    if are_active(form, at, regs, first, count) {
+        run_of(form, at, regs, most, first, count)
+    } else {
+        None
+    }
+}
+
+/// The same: a word of which all elements are active and stand in a row in vs2 is made of the two words there.
+#[inline(always)]
+pub(crate) fn slid_word<S: WordFile>(
+    form: Form,
+    file: &S,
+    at: &Setting,
+    regs: &Places,
+    sew: u32,
+    w: u32,
+) -> Word
+    requires same { S.vlen file.now ≡ at.now.vlen }
+    requires sound { IsSound (reading form (view_of at.now) regs.now (S.words file.now)) }
+    requires kind { IsTrue (is_slide form.family) }
+    requires vs2 { (operands_of form.family).vs2 ≡ Single }
+    requires sew { sew ≡ sew_of (reading form (view_of at.now) regs.now (S.words file.now)) }
+    requires width { IsTrue (is_width sew) }
+    requires within { w < length (destination_words (reading form (view_of at.now) regs.now (S.words file.now))) }
+    ensures value { result.value ≡ made_word (reading form (view_of at.now) regs.now (S.words file.now)) w }
+    ensures sat { result.sat ≡ word_saturates (reading form (view_of at.now) regs.now (S.words file.now)) w }
+{
+    joined_by_elements();
+    elements_are_lanes();
+    let per_word = 64 / sew;
+    match whole_run(form, at, regs, at.vlmax(), w * per_word, per_word) {
+        Some(from) => Word {
+            value: elements_from(file, at, regs.vs2, sew, from),
+            sat: false,
+        },
+        None => slid_by_lanes(form, file, at, regs, sew, w),
     }
 }
 
@@ -373,8 +435,8 @@ fn gathered_by_index<S: WordFile>(
 }
 
 /// The same. Each width stands as a literal.
-#[inline(always)]
-pub(crate) fn gathered_word<S: WordFile>(
+#[inline(never)]
+fn gathered_by_lanes<S: WordFile>(
     form: Form,
     file: &S,
     at: &Setting,
@@ -398,5 +460,112 @@ pub(crate) fn gathered_word<S: WordFile>(
         16 => gathered_by_index(form, file, at, regs, 16, w),
         32 => gathered_by_index(form, file, at, regs, 32, w),
         _ => gathered_by_index(form, file, at, regs, sew, w),
+    }
+}
+
+/// Whether a row is a gather whose indices stand in a register and have SEW.
+#[inline(always)]
+fn is_even_gather(form: Form) -> bool
+    ensures family { result ≡ true → form.family ≡ Vrgather }
+    ensures register { result ≡ true → form.first ≡ Vector }
+{
+    match form.family {
+        Family::Vrgather => match form.first {
+            First::Vector => true,
+            First::Integer => false,
+            First::Signed => false,
+            First::Unsigned => false,
+            First::Fixed => false,
+        },
+        _ => false,
+    }
+}
+
+/// The elements of vs2 at the indices in a word, as many as there are in it.
+#[inline(always)]
+fn gathered_lanes<S: WordFile>(
+    form: Form,
+    file: &S,
+    at: &Setting,
+    regs: &Places,
+    sew: u32,
+    most: u32,
+    indices: u64,
+) -> u64
+    requires same { S.vlen file.now ≡ at.now.vlen }
+    requires sound { IsSound (reading form (view_of at.now) regs.now (S.words file.now)) }
+    requires vs2 { (operands_of form.family).vs2 ≡ Single }
+    requires sew { sew ≡ sew_of (reading form (view_of at.now) regs.now (S.words file.now)) }
+    requires width { IsTrue (is_width sew) }
+    requires most { most ≡ vlmax at.now.vlen at.now.vtype }
+    ensures { result ≡ joined sew (64 / sew) (λ k. element_or_zero (lists_of (reading form (view_of at.now) regs.now (S.words file.now))) (lane sew indices k)) }
+{
+    let mut value = 0;
+    for k in 0..64 / sew {
+        let index = lane_at(sew, indices, k);
+        let next = source(form, file, at, regs, sew, most, index);
+        value = beside(sew, k, value, 1, low(sew, next));
+    }
+    value
+}
+
+/// Word `w` of the destination of a gather, where all its elements are active, and their indices stand in word `w` of vs1.
+#[inline(always)]
+fn gathered_whole<S: WordFile>(
+    form: Form,
+    file: &S,
+    at: &Setting,
+    regs: &Places,
+    sew: u32,
+    w: u32,
+) -> u64
+    requires same { S.vlen file.now ≡ at.now.vlen }
+    requires sound { IsSound (reading form (view_of at.now) regs.now (S.words file.now)) }
+    requires family { form.family ≡ Vrgather }
+    requires register { form.first ≡ Vector }
+    requires group { IsIndexed (reading form (view_of at.now) regs.now (S.words file.now)) }
+    requires vs2 { (operands_of form.family).vs2 ≡ Single }
+    requires sew { sew ≡ sew_of (reading form (view_of at.now) regs.now (S.words file.now)) }
+    requires width { IsTrue (is_width sew) }
+    requires below { w * (64 / sew) + 64 / sew ≤ at.now.vl }
+    ensures { result ≡ joined sew (64 / sew) (λ k. element_or_zero (lists_of (reading form (view_of at.now) regs.now (S.words file.now))) (gather_index (lists_of (reading form (view_of at.now) regs.now (S.words file.now))) (w * (64 / sew) + k))) }
+{
+    joined_by_elements();
+    elements_are_lanes();
+    let indices = group_word(file, at, regs.vs1, w);
+    gathered_lanes(form, file, at, regs, sew, at.vlmax(), indices)
+}
+
+/// The same: the indices of a word of which all elements are active are read at once.
+#[inline(always)]
+pub(crate) fn gathered_word<S: WordFile>(
+    form: Form,
+    file: &S,
+    at: &Setting,
+    regs: &Places,
+    sew: u32,
+    w: u32,
+) -> Word
+    requires same { S.vlen file.now ≡ at.now.vlen }
+    requires sound { IsSound (reading form (view_of at.now) regs.now (S.words file.now)) }
+    requires kind { IsTrue (is_gather form.family) }
+    requires group { IsIndexed (reading form (view_of at.now) regs.now (S.words file.now)) }
+    requires vs2 { (operands_of form.family).vs2 ≡ Single }
+    requires sew { sew ≡ sew_of (reading form (view_of at.now) regs.now (S.words file.now)) }
+    requires width { IsTrue (is_width sew) }
+    requires within { w < length (destination_words (reading form (view_of at.now) regs.now (S.words file.now))) }
+    ensures value { result.value ≡ made_word (reading form (view_of at.now) regs.now (S.words file.now)) w }
+    ensures sat { result.sat ≡ word_saturates (reading form (view_of at.now) regs.now (S.words file.now)) w }
+{
+    joined_by_elements();
+    elements_are_lanes();
+    let per_word = 64 / sew;
+    if is_even_gather(form) && are_active(form, at, regs, w * per_word, per_word) {
+        Word {
+            value: gathered_whole(form, file, at, regs, sew, w),
+            sat: false,
+        }
+    } else {
+        gathered_by_lanes(form, file, at, regs, sew, w)
     }
 }

@@ -217,7 +217,7 @@ fn packed_lanes<S: WordFile>(
 }
 
 /// Word `w` of the destination of a row that packs elements.
-#[inline(always)]
+#[inline(never)]
 pub(crate) fn packed_word<S: WordFile>(
     form: Form,
     file: &S,

@@ -48,7 +48,7 @@ fn put_word<S: WordFile>(
 }
 
 /// Word `w` of the destination of a row that packs elements or puts one.
-#[inline(always)]
+#[inline(never)]
 fn other_word<S: WordFile>(
     form: Form,
     file: &S,
@@ -77,7 +77,7 @@ fn other_word<S: WordFile>(
 }
 
 /// Word `w` of the destination of a row of this form.
-#[inline(always)]
+#[inline(never)]
 fn word_of_form<S: WordFile>(form: Form, file: &S, at: &Setting, regs: &Places, w: u32) -> Word
     requires same { S.vlen file.now ≡ at.now.vlen }
     requires sound { IsSound (reading form (view_of at.now) regs.now (S.words file.now)) }

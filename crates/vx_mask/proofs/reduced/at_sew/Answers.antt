@@ -1,6 +1,6 @@
 -- A reduction at SEW.
 use Rattle.vx_vstate.specs.Views.{view_of}
-use Rattle.std.proofs.Common.{◌≡◌, ◌∙◌, sym, ap}
+use Rattle.std.proofs.Common.{◌∙◌, sym, ap}
 use Rattle.vx_decode.specs.Groups.{width_of}
 use Rattle.vx_rows.specs.declared.family.Operands.{Operands}
 use Rattle.vx_rows.specs.Families.{operands_of}

@@ -1,5 +1,5 @@
 -- What each joins.
-use Rattle.std.proofs.Common.{◌≡◌, ℕ, bit_and, bit_or, min, max, if◌then◌else◌, sym, ap, ◌∙◌, rules}
+use Rattle.std.proofs.Common.{◌≡◌, bit_and, bit_or, min, max, if◌then◌else◌, sym, ap, ◌∙◌, rules}
 use Rattle.std.specs.Prelude.{bit_xor}
 use Rattle.vx_bits.specs.Arithmetic.{sum_at}
 use Rattle.vx_rows.specs.declared.family.Family.{Family}

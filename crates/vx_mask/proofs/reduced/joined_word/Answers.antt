@@ -1,5 +1,5 @@
 -- One lane more.
-use Rattle.std.proofs.Common.{◌≡◌, ℕ, ◌+◌, ◌/◌, nat_eq, if◌then◌else◌, sym, ap, ◌∙◌, arith}
+use Rattle.std.proofs.Common.{◌≡◌, ◌/◌, nat_eq, if◌then◌else◌, sym, ap, ◌∙◌, arith}
 use Rattle.vx_packed.specs.Joined.{lane}
 use Rattle.vx_operands.specs.Rising.{joined_below}
 use Rattle.vx_operands.proofs.Counts.{joined_none, joined_more}

@@ -1,6 +1,6 @@
 -- Element 0 is the sum.
 use Rattle.vx_vstate.specs.Views.{view_of}
-use Rattle.std.proofs.Common.{◌≡◌, ℕ, ◌+◌, ◌*◌, ◌/◌, ◌%◌, ◌^◌, ◌<◌, ◌≤◌, ◌∙◌, IsTrue, true, false, not, sym, ap, subst, arith}
+use Rattle.std.proofs.Common.{◌≡◌, ◌%◌, ◌^◌, ◌∙◌, IsTrue, sym, ap, subst}
 use Rattle.vx_bits.specs.Width.{is_width}
 use Rattle.vx_packed.specs.Joined.{lane}
 use Rattle.vx_rows.specs.Families.{operands_of}
@@ -13,7 +13,7 @@ use Rattle.vx_vector.specs.Reading.{destination_width}
 use Rattle.vx_vector.specs.Rules.{rule_of}
 use Rattle.vx_operands.proofs.Even.{destination_place, vs1_is}
 use Rattle.vx_operands.proofs.Groups.{count_some}
-use Rattle.vx_operands.proofs.ByIndex.{element_width, first_writes, first_unwritten, first_sat}
+use Rattle.vx_operands.proofs.ByIndex.{element_width, first_writes, first_unwritten}
 use Rattle.vx_mask.specs.Kinds.{is_element}
 use Rattle.vx_mask.proofs.Folds.{element_there, element_whole, first_place, start_is, reduce_alone, reduced_is}
 use Rattle.vx_mask.proofs.reduced.reduced_word.Goals as goal

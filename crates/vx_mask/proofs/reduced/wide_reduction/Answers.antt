@@ -1,6 +1,6 @@
 -- What each joins, at twice SEW.
 use Rattle.vx_vstate.specs.Views.{view_of}
-use Rattle.std.proofs.Common.{◌≡◌, ℕ, ◌+◌, ◌*◌, pos, ◌+ℤ◌, sym, ap, ◌∙◌, rules}
+use Rattle.std.proofs.Common.{◌≡◌, ◌+◌, ◌*◌, pos, ◌+ℤ◌, sym, ap, ◌∙◌, rules}
 use Rattle.vx_base.specs.Numbers.{reduced}
 use Rattle.vx_bits.specs.Width.{signed_at}
 use Rattle.vx_decode.specs.Groups.{width_of}

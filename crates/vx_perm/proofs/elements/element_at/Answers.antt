@@ -1,6 +1,5 @@
 -- One element of a part.
-use Rattle.std.proofs.Common.{◌≡◌, ℕ, ◌+◌, ◌*◌, ◌/◌, ◌<◌, ◌≤◌, ◌∙◌, IsTrue, sym, ap, subst, arith}
-use Rattle.vx_packed.specs.Joined.{lane}
+use Rattle.std.proofs.Common.{◌≡◌, ℕ, ◌+◌, ◌*◌, ◌/◌, ◌<◌, ◌∙◌, IsTrue, sym, ap, subst, arith}
 use Rattle.vx_vstate.specs.Registers.{element, element_word, is_element_width, place_of, words_of_all}
 use Rattle.vx_operands.proofs.ByIndex.{lowest_lane}
 use Rattle.vx_perm.proofs.elements.element_at.Goals as goal

@@ -1,6 +1,6 @@
 -- There are VLMAX.
 use Rattle.vx_vstate.specs.Views.{view_of}
-use Rattle.std.proofs.Common.{◌≡◌, ℕ, ◌+◌, ◌*◌, ◌/◌, ◌<◌, ◌≤◌, ◌∙◌, sym, ap, subst, rules}
+use Rattle.std.proofs.Common.{◌≡◌, ◌<◌, ◌≤◌, ◌∙◌, sym, ap, subst, rules}
 use Rattle.vx_vstate.specs.Registers.{element_word, place_of, words_of_all}
 use Rattle.vx_operands.specs.Forms.{reading}
 use Rattle.vx_vector.specs.Reading.{element_of}

@@ -1,6 +1,6 @@
 -- The element whose index is taken.
 use Rattle.vx_vstate.specs.Views.{view_of}
-use Rattle.std.proofs.Common.{◌≡◌, ℕ, ◌+◌, ◌<◌, Option, Some, sym, ap, ◌∙◌, arith, rules}
+use Rattle.std.proofs.Common.{◌≡◌, Some, sym, ap, ◌∙◌, rules}
 use Rattle.std.proofs.iter.Serving.{serving}
 use Rattle.vx_decode.specs.Groups.{width_of}
 use Rattle.vx_rows.specs.Families.{operands_of}

@@ -1,6 +1,6 @@
 -- The index of an element.
 use Rattle.vx_vstate.specs.Views.{view_of}
-use Rattle.std.proofs.Common.{◌≡◌, ℕ, ◌+◌, ◌*◌, ◌/◌, ◌<◌, ◌≤◌, ◌∙◌, get_or, sym, ap, subst, arith}
+use Rattle.std.proofs.Common.{◌<◌, ◌∙◌, get_or, sym, ap, subst}
 use Rattle.vx_rows.specs.declared.row.First.{First}
 use Rattle.vx_vstate.specs.Registers.{element_word, place_of, words_of_all}
 use Rattle.vx_operands.specs.Forms.{reading}

@@ -1,11 +1,10 @@
 -- What each takes.
 use Rattle.vx_vstate.specs.Views.{view_of}
-use Rattle.std.proofs.Common.{◌≡◌, ℕ, ◌+◌, ◌-◌, ◌*◌, ◌%◌, ◌^◌, ◌<◌, nat_eq, if◌then◌else◌, Option, Some, sym, ap, ◌∙◌, rules}
-use Rattle.std.proofs.iter.Serving.{serving}
+use Rattle.std.proofs.Common.{◌≡◌, ◌+◌, ◌-◌, ◌%◌, ◌^◌, nat_eq, if◌then◌else◌, Some, sym, ap, ◌∙◌, rules}
 use Rattle.vx_rows.specs.declared.family.Family.{Family}
 use Rattle.vx_operands.specs.Forms.{reading}
 use Rattle.vx_operands.specs.Rising.{moved_by}
-use Rattle.vx_vector.specs.Lists.{element_or_zero, gather_index, slid_up}
+use Rattle.vx_vector.specs.Lists.{element_or_zero, slid_up}
 use Rattle.vx_vector.specs.Reading.{lists_of}
 use Rattle.vx_vector.specs.Rules.{rule_of}
 use Rattle.vx_perm.proofs.Facts.{slide_moves}

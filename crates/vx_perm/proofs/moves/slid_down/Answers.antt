@@ -1,6 +1,6 @@
 -- Past the last element either way.
 use Rattle.vx_vstate.specs.Views.{view_of}
-use Rattle.std.proofs.Common.{◌≡◌, ℕ, ◌+◌, ◌-◌, ◌*◌, ◌^◌, ◌<◌, ◌≤◌, ◌∙◌, Option, Some, ltb, if◌then◌else◌, sym, ap, subst, arith}
+use Rattle.std.proofs.Common.{◌+◌, ◌-◌, ◌^◌, ◌≤◌, ◌∙◌, Some, ltb, if◌then◌else◌, ap, subst, arith}
 use Rattle.vx_operands.specs.Forms.{reading}
 use Rattle.vx_vector.specs.Lists.{element_or_zero}
 use Rattle.vx_vector.specs.Reading.{lists_of}

@@ -1,12 +1,12 @@
 -- The bits of a word of the mask, below vl.
 use Rattle.vx_vstate.specs.Views.{view_of}
-use Rattle.std.proofs.Common.{◌≡◌, ℕ, ◌+◌, ◌*◌, ◌/◌, ◌<◌, ◌≤◌, ◌∙◌, ◌&&◌, nat_eq, leb, ltb, sym, ap, subst, arith, refl}
+use Rattle.std.proofs.Common.{◌+◌, ◌*◌, ◌∙◌, ◌&&◌, nat_eq, leb, ltb, sym, ap, subst, refl}
 use Rattle.vx_packed.specs.Joined.{lane}
 use Rattle.vx_rows.specs.Families.{operands_of}
 use Rattle.vx_rows.specs.declared.family.Family.{Family}
 use Rattle.vx_rows.specs.declared.family.Operand.{Operand}
 use Rattle.vx_operands.specs.Forms.{reading}
-use Rattle.vx_operands.proofs.Even.{vl-le, vs1_is}
+use Rattle.vx_operands.proofs.Even.{vs1_is}
 use Rattle.vx_operands.proofs.Merging.{truth_one}
 use Rattle.vx_operands.proofs.Counts.{count_alike}
 use Rattle.vx_vector.specs.Laws.{IsPlaced}

@@ -1,11 +1,11 @@
 -- Bit i of the mask.
 use Rattle.vx_vstate.specs.Views.{view_of}
-use Rattle.std.proofs.Common.{◌≡◌, ◌<◌, ◌∙◌, nat_eq, sym, ap, subst, arith}
+use Rattle.std.proofs.Common.{nat_eq, ap, subst}
 use Rattle.vx_rows.specs.Families.{operands_of}
 use Rattle.vx_rows.specs.declared.family.Family.{Family}
 use Rattle.vx_rows.specs.declared.family.Operand.{Operand}
 use Rattle.vx_operands.specs.Forms.{reading}
-use Rattle.vx_operands.proofs.Even.{vl-le, vs1_is}
+use Rattle.vx_operands.proofs.Even.{vs1_is}
 use Rattle.vx_vector.specs.Laws.{IsPlaced}
 use Rattle.vx_perm.proofs.Facts.{mask_bit_place}
 use Rattle.vx_perm.proofs.packs.is_chosen.Goals as goal

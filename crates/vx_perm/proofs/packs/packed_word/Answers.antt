@@ -1,6 +1,6 @@
 -- All lanes.
 use Rattle.vx_vstate.specs.Views.{view_of}
-use Rattle.std.proofs.Common.{◌≡◌, ◌+◌, ◌*◌, ◌/◌, ◌<◌, ◌≤◌, ◌∙◌, not, sym, ap, arith}
+use Rattle.std.proofs.Common.{◌*◌, ◌/◌, ◌∙◌, not, sym, ap, arith}
 use Rattle.vx_decode.specs.Groups.{width_of}
 use Rattle.vx_rows.specs.Families.{operands_of}
 use Rattle.vx_rows.specs.declared.family.Family.{Family}

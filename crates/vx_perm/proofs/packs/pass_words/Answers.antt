@@ -1,6 +1,6 @@
 -- One word more.
 use Rattle.vx_vstate.specs.Views.{view_of}
-use Rattle.std.proofs.Common.{◌≡◌, ◌+◌, ◌*◌, ◌/◌, ◌<◌, ◌≤◌, arith}
+use Rattle.std.proofs.Common.{◌*◌, arith}
 use Rattle.vx_operands.specs.Forms.{reading}
 use Rattle.vx_perm.proofs.Facts.{passing_none, passing_more, passing_stops, passing_ends, passing_small}
 use Rattle.vx_perm.proofs.packs.pass_words.Goals as goal

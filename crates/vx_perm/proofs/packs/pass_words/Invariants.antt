@@ -1,8 +1,6 @@
-use Rattle.std.proofs.Common.{◌≡◌, ◌*◌, ◌≤◌, ◌&&◌, ltb}
+use Rattle.std.proofs.Common.{◌*◌}
 use Rattle.vx_vstate.specs.Views.{view_of}
 use Rattle.vx_operands.specs.Forms.{reading}
-use Rattle.vx_operands.specs.Rising.{count_below}
-use Rattle.vx_perm.specs.Kinds.{chooses}
 use Rattle.vx_perm.proofs.Facts.{IsPassing}
 use Rattle.vx_perm.proofs.packs.pass_words.Given as goal
 

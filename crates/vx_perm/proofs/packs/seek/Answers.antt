@@ -1,6 +1,6 @@
 -- One element more.
 use Rattle.vx_vstate.specs.Views.{view_of}
-use Rattle.std.proofs.Common.{◌≡◌, ℕ, ◌+◌, ◌<◌, ◌≤◌, ◌∙◌, nat_eq, sym, subst, arith}
+use Rattle.std.proofs.Common.{◌≡◌, ◌∙◌, nat_eq, sym, subst, arith}
 use Rattle.std.proofs.lemmas.Bool.{and_parts, eqb-true}
 use Rattle.vx_operands.specs.Forms.{reading}
 use Rattle.vx_perm.specs.Kinds.{IsPassed}

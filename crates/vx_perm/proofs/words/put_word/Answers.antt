@@ -1,6 +1,6 @@
 -- Element 0 is the integer register.
 use Rattle.vx_vstate.specs.Views.{view_of}
-use Rattle.std.proofs.Common.{◌≡◌, ◌+◌, ◌*◌, ◌%◌, ◌^◌, ◌<◌, ◌≤◌, ◌∙◌, IsTrue, true, false, not, sym, ap, subst}
+use Rattle.std.proofs.Common.{◌%◌, ◌^◌, ◌∙◌, IsTrue, not, sym, ap, subst}
 use Rattle.std.proofs.Math.Nat.{mod-mod}
 use Rattle.vx_bits.specs.Width.{is_width}
 use Rattle.vx_decode.specs.Groups.{width_of}
