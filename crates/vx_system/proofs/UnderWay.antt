@@ -1,12 +1,10 @@
 -- A process alone, a step at a time.
-use Rattle.std.proofs.Common.{◌≡◌, ℕ, zero, suc, ◌+◌, ◌-◌, ◌^◌, ◌<◌, ◌≤◌, true, false, refl, sym, ap, subst, ◌∙◌, ⊎_elim, arith}
+use Rattle.std.proofs.Common.{◌≡◌, ℕ, suc, ◌+◌, ◌-◌, ◌^◌, ◌<◌, ◌≤◌, true, false, refl, sym, ap, subst, ◌∙◌, ⊎_elim, arith}
 use Rattle.std.proofs.lemmas.Bool.{cases_lt}
 use Rattle.std.specs.Prelude.{Option, Some, None, is_some}
-use Rattle.vx_base.specs.Faults.{one_more}
 use Rattle.vx_flat.specs.Outcome.{Outcome}
 use Rattle.vx_flat.specs.Outcome.Outcome.{Next, Exited, Faulted}
 use Rattle.vx_flat.specs.Process.{Process, after, stepped, stepped_on}
-use Rattle.vx_flat.specs.State.{Flat}
 use Rattle.vx_flat.specs.Step.{step}
 use Rattle.vx_flat.specs.declared.end.End.{End}
 use Rattle.vx_machine.specs.Alone.{stop_alone}

@@ -1,5 +1,6 @@
 ghost use Rattle.std.specs.Prelude.{◌≡◌, ◌<◌, ◌≤◌, ℕ, ◌+◌, ◌*◌, ◌%◌, ◌^◌, ◌==◌, false, [], List, option_to_list};
 ghost use Rattle.vx_vaddr.specs.Patterns.{IsPattern};
+ghost use Rattle.vx_vector.specs.Accesses.{movement};
 ghost use Rattle.vx_vstate.specs.Views.{view_of};
 
 use crate::item::{AccessList, Item};
@@ -32,7 +33,7 @@ impl AccessPattern {
     ghost use Rattle.vx_vaddr.specs.Items.{access_of_item, accesses_of_items};
     ghost use Rattle.vx_vaddr.specs.Patterns.{IsSized};
     ghost use Rattle.vx_vaddr.specs.Views.{movement_with};
-    ghost use Rattle.vx_vector.specs.Accesses.{access_bytes, access_of, accesses_of_element, address_of, fields_of, index_of, movement_count, offset_by, takes_part, movement};
+    ghost use Rattle.vx_vector.specs.Accesses.{access_bytes, access_of, accesses_of_element, address_of, fields_of, index_of, movement_count, offset_by, takes_part};
     ghost use Rattle.vx_vector.specs.Batches.{accesses_of_batch, batch_at, most_of_batch};
     ghost use Rattle.vx_vector.specs.Movements.{IsSoundMovement};
 
