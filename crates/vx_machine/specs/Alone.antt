@@ -1,5 +1,5 @@
 -- An image alone, an instruction at a time, under a budget of instructions. This project's own.
-use Rattle.std.specs.Prelude.{◌≡◌, ℕ, ◌<◌, Option, Some, None}
+use Rattle.std.specs.Prelude.{◌≡◌, ℕ, ◌<◌, true, Option, Some, None}
 use Rattle.vx_flat.specs.Process.{Process, stepped_on}
 use Rattle.vx_flat.specs.declared.hart.Hart.{Hart}
 use Rattle.vx_machine.specs.Machine.{stop_at}
