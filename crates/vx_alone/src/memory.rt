@@ -279,12 +279,7 @@ fn put_number(bytes: &mut [u8], at: usize, width: usize, value: u64)
 
 /// The place of an address's page, where an access of this kind is let through, which then is the last of its kind.
 #[inline(always)]
-fn place_in(
-    entries: &[PageEntry],
-    last: &mut LastPage,
-    address: u64,
-    want: Want,
-) -> Option<usize>
+fn place_in(entries: &[PageEntry], last: &mut LastPage, address: u64, want: Want) -> Option<usize>
     requires rising { IsRising entries.now }
     requires serves { Serves entries.now want last.old.number last.old.place }
     ensures serves { Serves entries.now want last.new.number last.new.place }
@@ -372,11 +367,7 @@ mod tests {
                 perm: Perm { bits },
             }];
             let at = |granted| if granted { Some(0) } else { None };
-            assert_eq!(rt;
-                granting(&entries, 0x10008, Want::Load),
-                at(read),
-                "{bits}"
-            );
+            assert_eq!(rt; granting(&entries, 0x10008, Want::Load), at(read), "{bits}");
             assert_eq!(rt;
                 granting(&entries, 0x10008, Want::Store),
                 at(written),

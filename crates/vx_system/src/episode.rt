@@ -18,7 +18,6 @@ pub struct Episode {
 
 /// Runs a process from a cycle on, one instruction in flight at a time: up to the first instruction that retires at or after
 /// `until`, a service, or the end of the process.
-#[inline(never)]
 pub fn run_episode(process: &mut Alone, start: u64, until: u64, bank_time: u64) -> Episode
     requires running { process.old.over ≡ None }
     requires vectors { process.old.state.vectors_enabled ≡ false }

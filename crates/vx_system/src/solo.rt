@@ -10,7 +10,6 @@ use vx_base::Bytes;
 use vx_machine::{Measure, Stop};
 
 /// Steps a process alone until it has ended, or has completed so many instructions.
-#[inline(never)]
 pub fn run_alone(process: &mut Alone, budget: u64) -> Stop
     requires unbegun { process.old.count ≡ 0 }
     requires running { process.old.over ≡ None }
