@@ -125,7 +125,6 @@ impl Alone {
 
     /// Does what stands at the pc, in a machine that isn't over, unless it asks for a service: `serve` does that. Gives the
     /// class of what stands there, where it is an instruction that is executed.
-    #[inline(always)]
     pub fn advance(&mut self) -> Option<Class>
         requires running { self.old.over ≡ None }
         ensures class { result ≡ class_next (upcoming self.old.state) }
@@ -146,7 +145,6 @@ impl Alone {
     }
 
     /// Does an instruction, whose word this is, unless it asks for a service. Gives its class, where it is executed.
-    #[inline(always)]
     fn advance_by(&mut self, word: u32, known: Known) -> Option<Class>
         requires running { self.old.over ≡ None }
         requires valid { IsValid known.instr }
@@ -171,7 +169,6 @@ impl Alone {
     }
 
     /// The flat step of a machine that isn't over.
-    #[inline(always)]
     fn go(&mut self)
         requires running { self.old.over ≡ None }
         ensures stepped { self.new ≡ stepped self.old }
@@ -183,7 +180,6 @@ impl Alone {
     }
 
     /// The flat step. After `Exited` or `Faulted` each step repeats that answer and changes nothing.
-    #[inline(always)]
     pub fn step(&mut self) -> Turn
         ensures stepped { self.new ≡ stepped self.old }
         ensures turn { result ≡ turn_of self.new.over }
@@ -239,7 +235,6 @@ impl Alone {
 
     /// Does an instruction of a class, unless it asks for a service. Answers whether it is legal; where it isn't, nothing
     /// changes.
-    #[inline(always)]
     #[tactic(auto, using(crate::proofs::Performable::names_registers))]
     fn execute(&mut self, class: Class, i: Instr) -> bool
         requires running { self.old.over ≡ None }
@@ -467,7 +462,6 @@ impl Alone {
     }
 
     /// Does an instruction that touches no memory.
-    #[inline(always)]
     fn affect(&mut self, i: Instr)
         requires running { self.old.over ≡ None }
         requires registers { NamesRegisters i }
@@ -478,7 +472,6 @@ impl Alone {
     }
 
     /// Takes the effect of an instruction with this destination.
-    #[inline(always)]
     fn take(&mut self, rd: u8, effect: Effect)
         requires running { self.old.over ≡ None }
         requires register { rd < 32 }
@@ -598,7 +591,6 @@ impl Alone {
     }
 
     /// Asks for the service that a7 names.
-    #[inline(never)]
     fn ecall(&mut self)
         requires running { self.old.over ≡ None }
         ensures { self.new ≡ after self.old (ecall self.old.state) }
@@ -647,7 +639,6 @@ impl Alone {
     }
 
     /// The instruction has completed, and the pc moves on.
-    #[inline(always)]
     fn complete(&mut self)
         requires running { self.old.over ≡ None }
         ensures { self.new ≡ after self.old (Next (record self.old.state { pc = following self.old.state })) }
@@ -656,7 +647,6 @@ impl Alone {
     }
 
     /// The instruction has completed, and the process goes on at a pc.
-    #[inline(always)]
     fn go_on(&mut self, pc: u64)
         requires running { self.old.over ≡ None }
         requires aligned { pc % 4 ≡ 0 }
@@ -667,7 +657,6 @@ impl Alone {
     }
 
     /// The process ends at a fault.
-    #[inline(never)]
     fn fault(&mut self, cause: u8, tval: u64)
         ensures { self.new ≡ after self.old (faulted self.old.state cause tval) }
     {
