@@ -15,7 +15,7 @@ use Rattle.vx_flat.specs.Memory.{byte_at, bytes_at, next_address, all_permit, pu
 use Rattle.vx_flat.specs.Service.{is_readable}
 use Rattle.vx_scalar.specs.Operands.{is_access_width}
 use Rattle.vx_image.specs.Kept.{pages_of, entry_at, IsRising, IsPlaceOf, Lacks}
-use Rattle.vx_alone.specs.Granted.{IsGrantedAt}
+use Rattle.vx_alone.specs.Granted.{IsGrantedAt, Serves}
 use Rattle.vx_alone.proofs.Numbers.{put_next}
 use Rattle.vx_image.proofs.PagesAt.{absent_by}
 use Rattle.vx_alone.proofs.Pages.{permissions_at, byte_in_page, put_in_page}
@@ -149,6 +149,13 @@ permits_alike : (memory : Memory) (a b : ℕ) (want : Want) → a / 4096 ≡ b /
 permits_alike memory a b want same =
     let upper : a / 2 ^ 38 ≡ b / 2 ^ 38 = sym (shr-shr a 12 26) ∙ ap (λ (q : ℕ). q / 2 ^ 26) same ∙ shr-shr b 12 26 in
     rw (upper, same) refl
+
+-- where an address is let through, so is its page
+pub serves-page : (entries : List PageEntry) (want : Want) (address k : ℕ) → IsGrantedAt entries address want k → Serves entries want (page_of address) k
+serves-page entries want address k granted other below same = record {
+  place = subst (λ (n : ℕ). IsPlaceOf entries n k) (sym same) granted.place;
+  permitted = λ bytes. permits_alike (pages_of entries bytes) other address want same ∙ granted.permitted bytes;
+}
 
 module _ (memory : Memory) (want : Want) (page : ℕ) (granted : permits memory (page * 4096) want ≡ true) where
   -- where one address of a page is let through, each is

@@ -8,6 +8,7 @@ ghost use Rattle.vx_base.specs.Numbers.{signed};
 ghost use Rattle.vx_base.specs.Options.{is_register_length};
 ghost use Rattle.vx_decode.specs.Encoded.{IsValid};
 ghost use Rattle.vx_decode.specs.Legal.{is_illegal};
+ghost use Rattle.vx_flat.specs.Access.{access_width};
 ghost use Rattle.vx_flat.specs.Service.{service, answered, write};
 ghost use Rattle.vx_flat.specs.State.{completed, following, register};
 ghost use Rattle.vx_flat.specs.Transfers.{is_fault_only_first, transfer, transferred};
@@ -39,7 +40,7 @@ use vx_decode::{Instr, Known, KnownWords, decoded_is_valid, legal};
 use vx_exec::{Calculator, instructions_read};
 use vx_flat::{Effect, End, Hart};
 use vx_image::Image;
-use vx_rows::{Addressing, Class, Eew, Family};
+use vx_rows::{Addressing, Class, Eew, Family, Op, ScalarOp};
 use vx_scalar::{Regs, access_width, loaded, scalar, scalar_address};
 use vx_vaddr::AccessPattern;
 use vx_vector::legal_movements_are_sound;
@@ -487,47 +488,86 @@ impl Alone {
         }
     }
 
-    /// Does a load.
+    /// Does a load. Each operation stands as a literal, so that its width and its value are known where it is done.
+    #[inline(always)]
     fn load(&mut self, i: Instr)
         requires running { self.old.over ≡ None }
         requires registers { NamesRegisters i }
         ensures { self.new ≡ after self.old (load self.old.state i) }
     {
         let address = scalar_address(&i, &self.arch.regs);
-        let width = access_width(i.op);
+        match i.op {
+            Op::Scalar(ScalarOp::Lb) => self.load_by_op(i, Op::Scalar(ScalarOp::Lb), address),
+            Op::Scalar(ScalarOp::Lh) => self.load_by_op(i, Op::Scalar(ScalarOp::Lh), address),
+            Op::Scalar(ScalarOp::Lw) => self.load_by_op(i, Op::Scalar(ScalarOp::Lw), address),
+            Op::Scalar(ScalarOp::Ld) => self.load_by_op(i, Op::Scalar(ScalarOp::Ld), address),
+            Op::Scalar(ScalarOp::Lbu) => self.load_by_op(i, Op::Scalar(ScalarOp::Lbu), address),
+            Op::Scalar(ScalarOp::Lhu) => self.load_by_op(i, Op::Scalar(ScalarOp::Lhu), address),
+            Op::Scalar(ScalarOp::Lwu) => self.load_by_op(i, Op::Scalar(ScalarOp::Lwu), address),
+            _ => self.load_by_op(i, i.op, address),
+        }
+    }
+
+    /// Does a load of an operation, which is the instruction's, from an address.
+    #[inline(always)]
+    fn load_by_op(&mut self, i: Instr, op: Op, address: u64)
+        requires running { self.old.over ≡ None }
+        requires register { i.rd < 32 }
+        requires operation { op ≡ i.op }
+        ensures { self.new ≡ after self.old (load_from self.old.state i address (access_width i.op)) }
+    {
+        let width = access_width(op);
         if is_aligned(address, width) {
-            self.load_aligned(i, address, width);
+            self.load_aligned(i, op, address, width);
         } else {
             self.fault(4, address);
         }
     }
 
     /// Does a load from an address that is a multiple of its width.
-    fn load_aligned(&mut self, i: Instr, address: u64, width: u64)
+    #[inline(always)]
+    fn load_aligned(&mut self, i: Instr, op: Op, address: u64, width: u64)
         requires running { self.old.over ≡ None }
         requires register { i.rd < 32 }
+        requires operation { op ≡ i.op }
         requires width { IsTrue (is_access_width width) }
         requires aligned { address % width ≡ 0 }
         ensures { self.new ≡ after self.old (load_from self.old.state i address width) }
     {
         match self.memory.load(address, width) {
             Some(n) => {
-                self.arch.regs.write(i.rd, loaded(i.op, n));
+                self.arch.regs.write(i.rd, loaded(op, n));
                 self.complete();
             }
             None => self.fault(13, address),
         }
     }
 
-    /// Does a store.
+    /// Does a store. Each operation stands as a literal, likewise.
+    #[inline(always)]
     fn store(&mut self, i: Instr)
         requires running { self.old.over ≡ None }
         requires registers { NamesRegisters i }
         ensures { self.new ≡ after self.old (store self.old.state i) }
     {
         let address = scalar_address(&i, &self.arch.regs);
-        let width = access_width(i.op);
         let value = self.arch.regs.read(i.rs2);
+        match i.op {
+            Op::Scalar(ScalarOp::Sb) => self.store_by_op(Op::Scalar(ScalarOp::Sb), address, value),
+            Op::Scalar(ScalarOp::Sh) => self.store_by_op(Op::Scalar(ScalarOp::Sh), address, value),
+            Op::Scalar(ScalarOp::Sw) => self.store_by_op(Op::Scalar(ScalarOp::Sw), address, value),
+            Op::Scalar(ScalarOp::Sd) => self.store_by_op(Op::Scalar(ScalarOp::Sd), address, value),
+            _ => self.store_by_op(i.op, address, value),
+        }
+    }
+
+    /// Does a store of an operation at an address.
+    #[inline(always)]
+    fn store_by_op(&mut self, op: Op, address: u64, value: u64)
+        requires running { self.old.over ≡ None }
+        ensures { self.new ≡ after self.old (store_at self.old.state address (access_width op) value) }
+    {
+        let width = access_width(op);
         if is_aligned(address, width) {
             self.store_aligned(address, width, value);
         } else {
@@ -536,6 +576,7 @@ impl Alone {
     }
 
     /// Does a store at an address that is a multiple of its width.
+    #[inline(always)]
     fn store_aligned(&mut self, address: u64, width: u64, value: u64)
         requires running { self.old.over ≡ None }
         requires width { IsTrue (is_access_width width) }

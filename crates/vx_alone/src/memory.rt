@@ -5,7 +5,7 @@ ghost use Rattle.vx_flat.specs.Memory.{bytes_at, all_permit, put_bytes};
 ghost use Rattle.vx_flat.specs.Service.{is_readable};
 ghost use Rattle.vx_image.specs.Pages.{permits, is_canonical};
 ghost use Rattle.vx_image.specs.Kept.{pages_of, IsRising, IsPlaceOf, IsKept, Lacks};
-ghost use Rattle.vx_alone.specs.Granted.{IsGrantedAt};
+ghost use Rattle.vx_alone.specs.Granted.{IsGrantedAt, Serves};
 ghost use Rattle.vx_scalar.specs.Operands.{is_access_width};
 
 use std::alloc::{AllocError, Global};
@@ -19,26 +19,52 @@ const PAGE_LEN: usize = 4096;
 /// The same, as a step of addresses.
 const PAGE_BYTES: u64 = PAGE_LEN as u64;
 
+/// A page that the last access of a kind was let through to, by its number, and its place among the entries.
+#[derive(Clone, Copy, Debug)]
+struct LastPage {
+    number: u64,
+    place: usize,
+}
+
+impl LastPage {
+    /// That of no address.
+    fn none() -> LastPage
+        ensures { result.number ≡ 2 ^ 64 - 1 }
+    {
+        LastPage {
+            number: u64::MAX,
+            place: 0,
+        }
+    }
+}
+
 /// The memory of a process, by page: the entries of the mapped pages in rising order, and the bytes of all of them. It
-/// keeps the places of the last page that was fetched from and of the last that was loaded from or stored to, at which a
-/// search looks first.
+/// keeps for each kind of access the last page that let it through, at which nothing is looked up again.
 #[derive(Debug, Drop)]
 pub struct Memory {
     entries: Vec<PageEntry>,
     bytes: Vec<u8>,
-    code: usize,
-    data: usize,
+    fetched: LastPage,
+    loaded: LastPage,
+    stored: LastPage,
 }
 
 impl Model for Memory {
     ghost use Rattle.vx_image.specs.Pages.{Memory as FlatMemory};
+    ghost use Rattle.vx_base.specs.declared.machine.Want.TheVariants as want;
     ghost use Rattle.vx_image.specs.Kept.{pages_of, IsKept};
+    ghost use Rattle.vx_alone.specs.Granted.{Serves};
 
     ghost Value = { FlatMemory };
 
     ghost view = { λ m. pages_of m.entries.items m.bytes.items };
 
-    ghost invariant = { λ m. IsKept m.entries.items m.bytes.items };
+    ghost invariant = { λ m. record {
+      kept : IsKept m.entries.items m.bytes.items;
+      fetched : Serves m.entries.items want.Fetch m.fetched.number m.fetched.place;
+      loaded : Serves m.entries.items want.Load m.loaded.number m.loaded.place;
+      stored : Serves m.entries.items want.Store m.stored.number m.stored.place;
+    } };
 }
 
 impl Memory {
@@ -50,8 +76,9 @@ impl Memory {
         Ok(Memory {
             entries: Vec::from_slice(alloc, contents.entries)?,
             bytes: Vec::from_slice(alloc, contents.bytes)?,
-            code: 0,
-            data: 0,
+            fetched: LastPage::none(),
+            loaded: LastPage::none(),
+            stored: LastPage::none(),
         })
     }
 
@@ -63,8 +90,7 @@ impl Memory {
         ensures word { MatchOption result (permits self.old address want.Fetch ≡ false) (λ word.
             (permits self.old address want.Fetch ≡ true) × (word ≡ from_little_endian (bytes_at self.old address 4))) }
     {
-        let place = granting(&self.entries, self.code, address, Want::Fetch)?;
-        self.code = place;
+        let place = place_in(&self.entries, &mut self.fetched, address, Want::Fetch)?;
         Some(word_at(&self.bytes, index_of(place, address)))
     }
 
@@ -78,8 +104,7 @@ impl Memory {
         ensures number { MatchOption result (permits self.old address want.Load ≡ false) (λ n.
             (permits self.old address want.Load ≡ true) × (n ≡ from_little_endian (bytes_at self.old address width))) }
     {
-        let place = granting(&self.entries, self.data, address, Want::Load)?;
-        self.data = place;
+        let place = place_in(&self.entries, &mut self.loaded, address, Want::Load)?;
         Some(number_of_width(&self.bytes, index_of(place, address), width))
     }
 
@@ -89,11 +114,12 @@ impl Memory {
         ensures memory { self.new ≡ self.old }
         ensures permitted { result ≡ permits self.old address want }
     {
-        let Some(place) = granting(&self.entries, self.data, address, want) else {
-            return false;
-        };
-        self.data = place;
-        true
+        let entries = &self.entries;
+        match want {
+            Want::Fetch => place_in(entries, &mut self.fetched, address, want).is_some(),
+            Want::Load => place_in(entries, &mut self.loaded, address, want).is_some(),
+            Want::Store => place_in(entries, &mut self.stored, address, want).is_some(),
+        }
     }
 
     /// Stores the low bytes of a number from an address on, least first, where that is let through, and says whether it was.
@@ -105,10 +131,9 @@ impl Memory {
         ensures stored { result ≡ permits self.old address want.Store }
         ensures memory { self.new ≡ (if result then put_bytes self.old address (little_endian width value) else self.old) }
     {
-        let Some(place) = granting(&self.entries, self.data, address, Want::Store) else {
+        let Some(place) = place_in(&self.entries, &mut self.stored, address, Want::Store) else {
             return false;
         };
-        self.data = place;
         put_of_width(&mut self.bytes, index_of(place, address), width, value);
         true
     }
@@ -141,7 +166,7 @@ fn all_readable(entries: &[PageEntry], address: u64, count: u64) -> bool
     let mut done = 0;
     while done < count {
         let at = address + done;
-        let Some(_) = granting(entries, 0, at, Want::Load) else {
+        let Some(_) = granting(entries, at, Want::Load) else {
             return false;
         };
         done += count_on_page(at, count - done);
@@ -160,7 +185,7 @@ fn append_readable(entries: &[PageEntry], bytes: &[u8], address: u64, count: u64
     let mut done = 0;
     while done < count {
         let at = address + done;
-        let Some(place) = granting(entries, 0, at, Want::Load) else {
+        let Some(place) = granting(entries, at, Want::Load) else {
             unreachable!()
         };
         let step = count_on_page(at, count - done);
@@ -252,16 +277,33 @@ fn put_number(bytes: &mut [u8], at: usize, width: usize, value: u64)
     bytes[at..at + width].copy_from_slice(&value.to_le_bytes()[..width]);
 }
 
-/// The place of an address's page, where an access of this kind is let through. Looks at `first` before it searches.
+/// The place of an address's page, where an access of this kind is let through, which then is the last of its kind.
 #[inline(always)]
-fn granting(entries: &[PageEntry], first: usize, address: u64, want: Want) -> Option<usize>
+fn place_in(entries: &[PageEntry], last: &mut LastPage, address: u64, want: Want) -> Option<usize>
+    requires rising { IsRising entries.now }
+    requires serves { Serves entries.now want last.old.number last.old.place }
+    ensures serves { Serves entries.now want last.new.number last.new.place }
+    ensures place { MatchOption result ((bytes : List ℕ) → permits (pages_of entries.now bytes) address want ≡ false) (IsGrantedAt entries.now address want) }
+{
+    let number = address / PAGE_BYTES;
+    if number == last.number {
+        return Some(last.place);
+    }
+    let place = granting(entries, address, want)?;
+    *last = LastPage { number, place };
+    Some(place)
+}
+
+/// The place of an address's page, where an access of this kind is let through.
+#[inline(never)]
+fn granting(entries: &[PageEntry], address: u64, want: Want) -> Option<usize>
     requires { IsRising entries.now }
     ensures { MatchOption result ((bytes : List ℕ) → permits (pages_of entries.now bytes) address want ≡ false) (IsGrantedAt entries.now address want) }
 {
     if !is_canonical(address) {
         return None;
     }
-    let Some(place) = place_near(entries, first, address / PAGE_BYTES) else {
+    let Some(place) = place_of(entries, address / PAGE_BYTES) else {
         return None;
     };
     if entries[place].perm.grants(want) {
@@ -278,18 +320,6 @@ fn is_canonical(address: u64) -> bool
 {
     let top = address >> 38;
     top == 0 || top == (1 << 26) - 1
-}
-
-/// The place of the entry of a page, where one has it. Looks at `first` before it searches.
-#[inline(always)]
-fn place_near(entries: &[PageEntry], first: usize, page: u64) -> Option<usize>
-    requires { IsRising entries.now }
-    ensures { MatchOption result (Lacks entries.now page) (IsPlaceOf entries.now page) }
-{
-    if first < entries.len() && entries[first].page == page {
-        return Some(first);
-    }
-    place_of(entries, page)
 }
 
 #[cfg(test)]
@@ -318,7 +348,7 @@ mod tests {
             (0x40_0000_0000, Want::Load, false),
             (0x80_0001_0000, Want::Load, false),
         ] {
-            let place = granting(&memory.entries, 0, address, want);
+            let place = granting(&memory.entries, address, want);
             assert_eq!(rt; place.is_some(), granted, "{address:x}");
         }
         Ok(())
@@ -337,22 +367,18 @@ mod tests {
                 perm: Perm { bits },
             }];
             let at = |granted| if granted { Some(0) } else { None };
+            assert_eq!(rt; granting(&entries, 0x10008, Want::Load), at(read), "{bits}");
             assert_eq!(rt;
-                granting(&entries, 0, 0x10008, Want::Load),
-                at(read),
-                "{bits}"
-            );
-            assert_eq!(rt;
-                granting(&entries, 1, 0x10008, Want::Store),
+                granting(&entries, 0x10008, Want::Store),
                 at(written),
                 "{bits}"
             );
             assert_eq!(rt;
-                granting(&entries, 0, 0x10008, Want::Fetch),
+                granting(&entries, 0x10008, Want::Fetch),
                 at(fetched),
                 "{bits}"
             );
-            assert_eq!(rt; granting(&entries, 0, 0x11000, Want::Load), None, "{bits}");
+            assert_eq!(rt; granting(&entries, 0x11000, Want::Load), None, "{bits}");
         }
     }
 

@@ -5,6 +5,7 @@ ghost use Rattle.vx_scalar.specs.Operands.{is_access_width};
 use vx_rows::{Op, ScalarOp};
 
 /// How many bytes a load or a store moves; 1 of any other operation.
+#[inline(always)]
 pub fn access_width(op: Op) -> u64
     ensures value { result ≡ access_width op }
     ensures width { IsTrue (is_access_width result) }
@@ -18,6 +19,7 @@ pub fn access_width(op: Op) -> u64
 }
 
 /// The value that a load puts into `rd`, of the number that its bytes are, least first.
+#[inline(always)]
 pub fn loaded(op: Op, n: u64) -> u64
     ensures { result ≡ loaded op n }
 {

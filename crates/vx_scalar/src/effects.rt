@@ -11,6 +11,7 @@ use vx_flat::Effect;
 use vx_rows::Op;
 
 /// What an instruction that touches no memory does at a pc. Another one goes on at the next instruction.
+#[inline(always)]
 pub fn scalar(i: &Instr, regs: &Regs, pc: u64) -> Effect
     requires { NamesRegisters i.now }
     ensures { result ≡ effect i.now regs.now.x pc }
@@ -19,12 +20,12 @@ pub fn scalar(i: &Instr, regs: &Regs, pc: u64) -> Effect
     let b = regs.read(i.rs2);
     match i.op {
         Op::Scalar(op) => scalar_effect(op, pc, a, b, number(i.imm)),
-        Op::Set(_) | Op::Elem(_) | Op::Widen(_) | Op::Fixed(_) => Effect::Next(next(pc)),
-        Op::Mask(_) | Op::Perm(_) | Op::Memory(_) => Effect::Next(next(pc)),
+        _ => Effect::Next(next(pc)),
     }
 }
 
 /// The address of a load or a store.
+#[inline(always)]
 pub fn scalar_address(i: &Instr, regs: &Regs) -> u64
     requires { NamesRegisters i.now }
     ensures { result ≡ access_address i.now regs.now.x }

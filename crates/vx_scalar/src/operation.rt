@@ -11,6 +11,7 @@ use vx_rows::ScalarOp;
 
 /// What an operation does at a pc, with the numbers in `rs1` and `rs2` and the immediate. A load, a store and what isn't
 /// done by its effect go on at the next instruction.
+#[inline(always)]
 pub fn scalar_effect(op: ScalarOp, pc: u64, a: u64, b: u64, n: u64) -> Effect
     ensures { result ≡ effect_of (scalar_work op pc a b n) pc }
 {
