@@ -125,6 +125,7 @@ impl Alone {
 
     /// Does what stands at the pc, in a machine that isn't over, unless it asks for a service: `serve` does that. Gives the
     /// class of what stands there, where it is an instruction that is executed.
+    #[inline(never)]
     pub fn advance(&mut self) -> Option<Class>
         requires running { self.old.over ≡ None }
         ensures class { result ≡ class_next (upcoming self.old.state) }
