@@ -36,10 +36,13 @@ job_word Alone = codes "alone"
 -- whether the option may be given for it
 abbrev pub is_option_of : ImageJob → OptionName → Bool
 is_option_of Run Vlen = false
-is_option_of Run other = true
+is_option_of Run Window = true
+is_option_of Run Lanes = true
+is_option_of Run Budget = true
 is_option_of Alone Vlen = true
+is_option_of Alone Window = false
+is_option_of Alone Lanes = false
 is_option_of Alone Budget = true
-is_option_of Alone other = false
 
 abbrev pub is_same : OptionName → OptionName → Bool
 is_same Vlen Vlen = true
