@@ -1,2 +1,4 @@
+pub mod Accesses
 pub mod Issue
+pub mod Passing
 pub mod Times
