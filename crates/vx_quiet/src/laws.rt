@@ -15,10 +15,10 @@ ghost use Rattle.vx_quiet.specs.Quiet.{IsQuiet, completed_at, ended_by};
 /// Where one instruction is in flight at a time, the next one issues once it is fetched, and behind the last retire. A fetch begins
 /// behind the issue before it, and a cycle more behind that of a branch or a jump.
 pub fn instructions_issue_behind_a_quiet_history()
-    ensures at { (start : Start) (history : History) (retired fetched : ℕ) (f : Footprint) → start.machine.window ≡ 1 → IsQuiet start history retired
+    ensures at { (start : Start) (history : History) (retired fetched : ℕ) (f : Footprint) → IsQuiet start history retired → start.machine.window ≡ 1
         → issue_cycle start history (At fetched) f ≡ At (max fetched (retired + 1)) }
     ensures never { (start : Start) (history : History) (f : Footprint) → issue_cycle start history Never f ≡ Never }
-    ensures issued { (start : Start) (history : History) (s : Flat) (f : Footprint) (retired fetched : ℕ) → start.machine.window ≡ 1 → IsQuiet start history retired
+    ensures issued { (start : Start) (history : History) (s : Flat) (f : Footprint) (retired fetched : ℕ) → IsQuiet start history retired → start.machine.window ≡ 1
         → (timed start history s f).fetch.ended ≡ At fetched → (timed start history s f).issued ≡ At (max fetched (retired + 1)) }
     ensures first_fetch { (start : Start) → fetch_begin start [] ≡ At (start.cycle + 1) }
     ensures fetch { (start : Start) (history : History) (e : Entry) (issued : ℕ) → e.issued ≡ At issued
@@ -29,22 +29,22 @@ pub fn instructions_issue_behind_a_quiet_history()
 /// completes, at its retire, which is the next cycle.
 pub fn a_quiet_history_goes_on()
     ensures begins { (start : Start) → IsQuiet start [] start.cycle }
-    ensures retires { (start : Start) (history : History) (s : Flat) (f : Footprint) (retired completed : ℕ) → IsQuiet start history retired
-        → (timed start history s f).completed ≡ At completed → start.machine.window ≡ 1 → (timed start history s f).retired ≡ At (completed + 1) }
-    ensures behind { (start : Start) (history : History) (s : Flat) (f : Footprint) (retired completed : ℕ) → IsQuiet start history retired
-        → (timed start history s f).completed ≡ At completed → start.machine.window ≡ 1 → retired < completed }
-    ensures goes_on { (start : Start) (history : History) (s : Flat) (f : Footprint) (retired completed : ℕ) → IsQuiet start history retired
-        → (timed start history s f).completed ≡ At completed → start.machine.window ≡ 1 → IsQuiet start (timed start history s f ∷ history) (completed + 1) }
+    ensures retires { (start : Start) (history : History) (s : Flat) (f : Footprint) (retired completed : ℕ) → IsQuiet start history retired → start.machine.window ≡ 1
+        → (timed start history s f).completed ≡ At completed → (timed start history s f).retired ≡ At (completed + 1) }
+    ensures behind { (start : Start) (history : History) (s : Flat) (f : Footprint) (retired completed : ℕ) → IsQuiet start history retired → start.machine.window ≡ 1
+        → (timed start history s f).completed ≡ At completed → retired < completed }
+    ensures goes_on { (start : Start) (history : History) (s : Flat) (f : Footprint) (retired completed : ℕ) → IsQuiet start history retired → start.machine.window ≡ 1
+        → (timed start history s f).completed ≡ At completed → IsQuiet start (timed start history s f ∷ history) (completed + 1) }
 {}
 
 /// Where one instruction is in flight at a time, one without accesses that doesn't stop completes its latency behind its issue, and once
 /// what its beats make can be read: each beat is one step behind the one before. All that happens is that it completes.
 pub fn instructions_without_accesses_complete()
-    ensures completed { (start : Start) (history : History) (s : Flat) (f : Footprint) (retired fetched : ℕ) → IsQuiet start history retired
-        → start.machine.window ≡ 1 → f.stop ≡ None → f.batches ≡ [] → (timed start history s f).fetch.ended ≡ At fetched
+    ensures completed { (start : Start) (history : History) (s : Flat) (f : Footprint) (retired fetched : ℕ) → IsQuiet start history retired → start.machine.window ≡ 1
+        → f.stop ≡ None → f.batches ≡ [] → (timed start history s f).fetch.ended ≡ At fetched
         → (timed start history s f).completed ≡ At (completed_at (max fetched (retired + 1)) f) }
-    ensures happens { (start : Start) (history : History) (s : Flat) (f : Footprint) (retired completed : ℕ) → IsQuiet start history retired
-        → start.machine.window ≡ 1 → f.stop ≡ None → f.batches ≡ [] → (timed start history s f).completed ≡ At completed
+    ensures happens { (start : Start) (history : History) (s : Flat) (f : Footprint) (retired completed : ℕ) → IsQuiet start history retired → start.machine.window ≡ 1
+        → f.stop ≡ None → f.batches ≡ [] → (timed start history s f).completed ≡ At completed
         → happenings_of (last_retire start.cycle history) (timed start history s f) ≡ happening (timed start history s f) Completes (completed + 1) ∷ [] }
 {}
 
@@ -55,8 +55,8 @@ pub fn instructions_without_accesses_stop()
         → (timed start history s f).completed ≡ Never }
     ensures retired { (start : Start) (history : History) (s : Flat) (f : Footprint) (why : Ended) → f.stop ≡ Some why
         → (timed start history s f).retired ≡ Never }
-    ensures happens { (start : Start) (history : History) (s : Flat) (f : Footprint) (why : Ended) (retired fetched : ℕ) → IsQuiet start history retired
-        → start.machine.window ≡ 1 → f.stop ≡ Some why → f.batches ≡ [] → (timed start history s f).fetch.ended ≡ At fetched
+    ensures happens { (start : Start) (history : History) (s : Flat) (f : Footprint) (why : Ended) (retired fetched : ℕ) → IsQuiet start history retired → start.machine.window ≡ 1
+        → f.stop ≡ Some why → f.batches ≡ [] → (timed start history s f).fetch.ended ≡ At fetched
         → happenings_of (last_retire start.cycle history) (timed start history s f)
             ≡ happening (timed start history s f) (Stops why s.v.vstart s.v.vstart) (max fetched (retired + 1)) ∷ [] }
 {}
