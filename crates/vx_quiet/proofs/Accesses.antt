@@ -1,15 +1,15 @@
 -- The accesses of batches: once done, they were queued, and their banks are free.
-use Rattle.std.proofs.Common.{◌≡◌, ℕ, zero, suc, ◌+◌, ◌≤◌, ◌<◌, max, Bool, true, false, List, [], ◌∷◌, ◌++◌, refl, sym, ap, ◌∙◌, arith}
-use Rattle.std.specs.Prelude.{◌&&◌, ◌==◌, nat_le, map, filter, flat_map, Option, Some, None, option_map, find, if◌then◌else◌}
+use Rattle.std.proofs.Common.{◌≡◌, ℕ, ◌+◌, ◌≤◌, max, Bool, true, false, List, [], ◌∷◌, ◌++◌, refl, sym, ap, ◌∙◌, arith}
+use Rattle.std.specs.Prelude.{◌&&◌, ◌==◌, nat_le, map, Option, Some, option_map, find, if◌then◌else◌}
 use Rattle.std.specs.List.{list_all}
 use Rattle.std.specs.Option.{option_map_or}
 use Rattle.std.proofs.lemmas.Bool.{and_parts, and_from, false≢true, leb-true, le-leb}
 use Rattle.std.proofs.lemmas.List.Folds.{list_all-map}
-use Rattle.vx_episode.specs.Batches.{Judged, Waiting, serve_cycle, served_at, served_in_turn}
-use Rattle.vx_episode.specs.Cycles.{Cycle, is_by}
+use Rattle.vx_episode.specs.Batches.{Waiting, serve_cycle, served_at, served_in_turn}
+use Rattle.vx_episode.specs.Cycles.{is_by}
 use Rattle.vx_episode.specs.Cycles.Cycle.{At, Never}
 use Rattle.vx_episode.specs.Footprint.{Access}
-use Rattle.vx_episode.specs.History.{BatchTimes, AccessTimes, accesses_of, missing_of, bank_of, last_serve, done_cycles}
+use Rattle.vx_episode.specs.History.{AccessTimes, bank_of, last_serve, done_cycles}
 use Rattle.vx_episode.specs.Organisation.{Organisation}
 use Rattle.vx_quiet.proofs.Times.{all-both, all-parts, all-more}
 

@@ -1,6 +1,6 @@
 -- Instructions without accesses, behind a quiet history: when they complete, and what happens.
-use Rattle.std.proofs.Common.{◌≡◌, ℕ, zero, suc, ◌+◌, ◌*◌, ◌≤◌, ◌<◌, max, Bool, true, false, List, [], ◌∷◌, ◌++◌, length, refl, sym, ap, ◌∙◌, arith}
-use Rattle.std.specs.Prelude.{◌&&◌, ◌==◌, nat_le, map, flat_map, filter, find, reverse, Option, Some, None, option_map, option_to_list, if◌then◌else◌}
+use Rattle.std.proofs.Common.{◌≡◌, ℕ, suc, ◌+◌, ◌*◌, ◌≤◌, ◌<◌, max, Bool, true, List, [], ◌∷◌, ◌++◌, length, refl, ap, ◌∙◌, arith}
+use Rattle.std.specs.Prelude.{◌&&◌, ◌==◌, map, flat_map, filter, find, reverse, Option, Some, None, option_map, option_to_list, if◌then◌else◌}
 use Rattle.std.specs.List.{list_all}
 use Rattle.std.proofs.Math.Nat.{suc-mul}
 use Rattle.std.proofs.lemmas.Bool.{eq-eqb}
@@ -8,19 +8,19 @@ use Rattle.std.proofs.lemmas.List.{append-nil}
 use Rattle.vx_flat.specs.State.{Flat}
 use Rattle.vx_rows.specs.declared.family.Unit.{Unit}
 use Rattle.vx_episode.specs.Batches.{all_batches, retired_batches}
-use Rattle.vx_episode.specs.Commits.{Happening, timed, happening, happenings_of, batch_commit, not_last, serial_stop, batch_stop_by}
+use Rattle.vx_episode.specs.Commits.{timed, happening, happenings_of, batch_commit, not_last, serial_stop, batch_stop_by}
 use Rattle.vx_episode.specs.Commits.What.{Completes, Stops}
 use Rattle.vx_episode.specs.Cycles.{Cycle, later, behind, later_of, latest, is_by, cycles_of}
 use Rattle.vx_episode.specs.Cycles.Cycle.{At, Never}
 use Rattle.vx_episode.specs.Footprint.{Batch, Footprint, Group}
-use Rattle.vx_episode.specs.History.{History, Entry, BeatTimes, BatchTimes, last_retire, word_ready, unit_number, step_of, latency_of, beats_of, free_unit, stops, batch_done}
-use Rattle.vx_episode.specs.Instructions.{fetch_begin, fetch_times, issue_cycle, beat_cycle, beat_times, beat_ready, generation_cycle, complete_by, complete_cycle, retire_cycle}
+use Rattle.vx_episode.specs.History.{History, Entry, BeatTimes, BatchTimes, last_retire, word_ready, unit_number, step_of, latency_of, beats_of, free_unit, stops}
+use Rattle.vx_episode.specs.Instructions.{fetch_begin, fetch_times, issue_cycle, beat_cycle, beat_times, beat_ready, generation_cycle, complete_by, retire_cycle}
 use Rattle.vx_episode.specs.Organisation.{Start}
 use Rattle.vx_episode.specs.declared.ended.Ended.{Ended}
 use Rattle.vx_quiet.specs.Quiet.{IsQuiet, made_by, completed_at}
 use Rattle.vx_quiet.proofs.Going.{timed-retires}
-use Rattle.vx_quiet.proofs.Issue.{issue-of, ready-all}
-use Rattle.vx_quiet.proofs.Times.{all-both, by-more, all-by-more, ComesBy, latest-comes, later_of-never}
+use Rattle.vx_quiet.proofs.Issue.{issue-of}
+use Rattle.vx_quiet.proofs.Times.{all-both, by-more, all-by-more, latest-comes, later_of-never}
 
 -- ---- beats, one step behind another
 

@@ -1,23 +1,23 @@
 -- A quiet history stays quiet behind an instruction that completes.
-use Rattle.std.proofs.Common.{◌≡◌, ℕ, zero, suc, ◌+◌, ◌≤◌, ◌<◌, max, Bool, true, false, List, [], ◌∷◌, ◌++◌, refl, sym, ap, ◌∙◌, arith}
-use Rattle.std.specs.Prelude.{◌&&◌, ◌==◌, nat_le, map, flat_map, Option, Some, None, option_to_list, if◌then◌else◌}
+use Rattle.std.proofs.Common.{◌≡◌, ℕ, ◌+◌, ◌≤◌, ◌<◌, max, Bool, true, List, [], ◌∷◌, ◌++◌, refl, ap, ◌∙◌, arith}
+use Rattle.std.specs.Prelude.{◌==◌, nat_le, map, flat_map, Option, Some, None, option_to_list}
 use Rattle.std.specs.List.{list_all, list_any}
 use Rattle.std.specs.Option.{option_map_or}
-use Rattle.std.proofs.lemmas.Bool.{and_parts, and_from, false≢true, leb-true, le-leb}
+use Rattle.std.proofs.lemmas.Bool.{and_parts, and_from, le-leb}
 use Rattle.std.proofs.lemmas.Grind.{flat_map-append}
 use Rattle.vx_flat.specs.State.{Flat}
 use Rattle.vx_rows.specs.declared.family.Unit.{Unit}
 use Rattle.vx_episode.specs.Batches.{all_batches, retired_batches}
 use Rattle.vx_episode.specs.Commits.{timed, entry_completed}
 use Rattle.vx_episode.specs.Cycles.{Cycle, later, behind, latest, is_by}
-use Rattle.vx_episode.specs.Cycles.Cycle.{At, Never}
-use Rattle.vx_episode.specs.Footprint.{Access, Footprint}
+use Rattle.vx_episode.specs.Cycles.Cycle.{At}
+use Rattle.vx_episode.specs.Footprint.{Footprint}
 use Rattle.vx_episode.specs.History.{History, Entry, Walk, FetchTimes, BeatTimes, BatchTimes, AccessTimes, Ready, last_retire, register_ready, word_ready, beats_of, free_unit, batches_of, passed, last_passed, accesses_of, missing_of, batch_done, last_serve, walks_of_batches, data_walks, fetch_walks}
-use Rattle.vx_episode.specs.Instructions.{fetch_begin, fetch_times, issue_cycle, beat_times, beat_ready, words_made, words_loaded, generation_cycle, complete_by, complete_cycle, retire_cycle}
+use Rattle.vx_episode.specs.Instructions.{fetch_begin, fetch_times, issue_cycle, beat_times, beat_ready, words_made, words_loaded, generation_cycle, complete_by, retire_cycle}
 use Rattle.vx_episode.specs.Organisation.{Start}
 use Rattle.vx_episode.specs.declared.ended.Ended.{Ended}
 use Rattle.vx_quiet.specs.Quiet.{IsQuiet}
-use Rattle.vx_quiet.proofs.Accesses.{is_served, queued-all, free-all, free-more, done-parts}
+use Rattle.vx_quiet.proofs.Accesses.{queued-all, free-all, free-more, done-parts}
 use Rattle.vx_quiet.proofs.Issue.{issue-after}
 use Rattle.vx_quiet.proofs.Passing.{ArePassing, batches-passing}
 use Rattle.vx_quiet.proofs.Readiness.{register-by, free-units, made-all, loaded-all, ready-more, fetch-walk}
@@ -114,8 +114,8 @@ registers-more start k history e from done before register =
     register-by k start (register == 0) (list_any (λ (w : ℕ). w == register) e.footprint.writes) e.completed (register_ready start history register) from done (before register)
 
 module _ (start : Start) (history : History) (s : Flat) (f : Footprint) (fetch : FetchTimes) (issued : Cycle) (beats : List BeatTimes) (batches : List BatchTimes) (generated completed : Cycle) (r k : ℕ)
-  (q : IsQuiet start history r) (waited : Waited start issued generated f beats batches k) (done : completed ≡ At k) (after : r < k) (passing : ArePassing start.machine.bank_time r batches)
-  (last : list_all (is_by k) (last_passed batches) ≡ true) (walked : list_all (λ (w : Walk). nat_le w.ended k) (option_to_list fetch.walk) ≡ true) where
+    (q : IsQuiet start history r) (waited : Waited start issued generated f beats batches k) (done : completed ≡ At k) (after : r < k) (passing : ArePassing start.machine.bank_time r batches)
+    (last : list_all (is_by k) (last_passed batches) ≡ true) (walked : list_all (λ (w : Walk). nat_le w.ended k) (option_to_list fetch.walk) ≡ true) where
   abbrev entry : Entry
   entry = entry_completed start history s f fetch issued beats batches generated completed
 
@@ -201,7 +201,7 @@ module _ (start : Start) (history : History) (s : Flat) (f : Footprint) (fetch :
       let now : option_map_or (λ (served : ℕ). served + start.machine.bank_time) (last_serve start.machine bank (accesses_of batches ++ accesses_of (batches_of history))) 0 ≤ k =
       free-more start.machine k bank (accesses_of batches) (accesses_of (batches_of history)) (free-all start.machine.bank_time k (accesses_of batches) passing.served waited.done) few in
       let same : option_map_or (λ (served : ℕ). served + start.machine.bank_time) (last_serve start.machine bank (accesses_of (batches_of (entry ∷ history)))) 0
-          ≡ option_map_or (λ (served : ℕ). served + start.machine.bank_time) (last_serve start.machine bank (accesses_of batches ++ accesses_of (batches_of history))) 0 =
+      ≡ option_map_or (λ (served : ℕ). served + start.machine.bank_time) (last_serve start.machine bank (accesses_of batches ++ accesses_of (batches_of history))) 0 =
       ap (λ (xs : List AccessTimes). option_map_or (λ (served : ℕ). served + start.machine.bank_time) (last_serve start.machine bank xs) 0) accesses-are in
       omega arith
 

@@ -1,17 +1,17 @@
 -- The issue behind a quiet history.
-use Rattle.std.proofs.Common.{◌≡◌, ℕ, zero, suc, ◌+◌, ◌≤◌, ◌<◌, max, Bool, true, false, List, [], ◌∷◌, ◌++◌, refl, sym, ap, ◌∙◌, arith}
-use Rattle.std.specs.Prelude.{◌&&◌, nat_le, map, if◌then◌else◌}
+use Rattle.std.proofs.Common.{◌≡◌, ℕ, ◌+◌, ◌≤◌, ◌<◌, max, Bool, true, false, List, [], ◌∷◌, ◌++◌, refl, sym, ap, ◌∙◌, arith}
+use Rattle.std.specs.Prelude.{nat_le, map, if◌then◌else◌}
 use Rattle.std.specs.List.{list_all}
-use Rattle.std.proofs.lemmas.Bool.{and_parts, and_from, and_left, and_right, false≢true, leb-true, leb-false, le-leb, lt-leb}
-use Rattle.std.proofs.lemmas.List.Folds.{list_all-append, list_all-map}
-use Rattle.vx_episode.specs.Cycles.{Cycle, later, behind, later_of, latest, is_by}
+use Rattle.std.proofs.lemmas.Bool.{and_parts, and_from, and_left, and_right, false≢true, leb-true, leb-false, lt-leb}
+use Rattle.std.proofs.lemmas.List.Folds.{list_all-append}
+use Rattle.vx_episode.specs.Cycles.{Cycle, behind, later_of, latest, is_by}
 use Rattle.vx_episode.specs.Cycles.Cycle.{At, Never}
 use Rattle.vx_episode.specs.Footprint.{Footprint}
-use Rattle.vx_episode.specs.History.{History, Entry, last_issue, last_retire, retire_before, trimming_before, register_ready}
+use Rattle.vx_episode.specs.History.{History, last_issue, last_retire, retire_before, trimming_before, register_ready}
 use Rattle.vx_episode.specs.Instructions.{issue_cycle}
 use Rattle.vx_episode.specs.Organisation.{Start}
 use Rattle.vx_quiet.specs.Quiet.{IsQuiet}
-use Rattle.vx_quiet.proofs.Times.{all-both, all-if, by-latest, by-more, all-by-more, behind-by, all-behind, at-by}
+use Rattle.vx_quiet.proofs.Times.{all-both, all-if, by-latest, all-by-more, behind-by, all-behind, at-by}
 
 -- ---- of cycles
 

@@ -1,16 +1,15 @@
 -- The batches of an instruction: where the last has passed by a cycle, so have those before it, and their walks have ended.
-use Rattle.std.proofs.Common.{◌≡◌, ℕ, zero, suc, ◌+◌, ◌≤◌, ◌<◌, max, Bool, true, false, List, [], ◌∷◌, ◌++◌, length, refl, sym, ap, subst, ◌∙◌, inl, inr, arith}
-use Rattle.std.specs.Prelude.{◌&&◌, nat_le, map, Option, Some, None, is_some, if◌then◌else◌}
+use Rattle.std.proofs.Common.{◌≡◌, ℕ, ◌+◌, ◌≤◌, ◌<◌, Bool, true, false, List, [], ◌∷◌, ◌++◌, length, refl, ap, ◌∙◌, arith}
+use Rattle.std.specs.Prelude.{nat_le, map, if◌then◌else◌}
 use Rattle.std.specs.List.{list_all}
-use Rattle.std.proofs.lemmas.Bool.{cases_Bool, and_parts, and_from, false≢true, leb-true, le-leb}
+use Rattle.std.proofs.lemmas.Bool.{and_parts, and_from, false≢true, leb-true, le-leb}
 use Rattle.vx_base.specs.declared.machine.Want.{Want}
 use Rattle.vx_tables.specs.Residency.{is_store}
-use Rattle.vx_episode.specs.Batches.{Judged, Fate, fate_of, is_unknown, is_failing, walks_end, walk_behind, walks_with, walks_of, judged, lowest_failure, trims, queue_of, start_cycle, commit_cycle, with_commit, not_started, batch_judged, batch_started, batch_times, all_batches, retired_batches}
-use Rattle.vx_episode.specs.Cycles.{Cycle, later, behind, later_of, latest, is_by}
+use Rattle.vx_episode.specs.Batches.{Judged, fate_of, is_unknown, is_failing, walks_end, walk_behind, walks_with, walks_of, judged, queue_of, start_cycle, commit_cycle, with_commit, batch_judged, batch_started, batch_times, all_batches}
+use Rattle.vx_episode.specs.Cycles.{Cycle, behind, is_by}
 use Rattle.vx_episode.specs.Cycles.Cycle.{At, Never}
 use Rattle.vx_episode.specs.Footprint.{Access, Batch, Footprint}
-use Rattle.vx_episode.specs.History.{History, Walk, BatchTimes, AccessTimes, Failure, last_retire, word_ready, stops, passed, last_passed, commit_before_last, batches_of, accesses_of, missing_of, batch_done, walks_of_batches}
-use Rattle.vx_episode.specs.Instructions.{walk_time}
+use Rattle.vx_episode.specs.History.{History, Walk, BatchTimes, AccessTimes, last_retire, word_ready, stops, passed, last_passed, commit_before_last, batches_of, accesses_of, missing_of, batch_done, walks_of_batches}
 use Rattle.vx_episode.specs.Organisation.{Start}
 use Rattle.vx_quiet.proofs.Accesses.{is_served, served-all, done-from}
 use Rattle.vx_quiet.proofs.Times.{all-both, all-parts, all-more, behind-all, by-latest, by-more, all-by-more, latest-at, le-more, behind-by, at-by}
@@ -31,7 +30,7 @@ turn-more started walks w few turn = record {
   each = and_from (nat_le w.ended w.ended) (list_all (λ (v : Walk). nat_le v.ended w.ended) walks) (le-leb w.ended w.ended (omega arith)) (ended-more (walks_end started walks) w.ended few walks turn.each);
 }
 
-by-cases : {A : Type 0} (P : A → Type 0) (b : Bool) (x y : A) → P x → P y → P (elim b as (λ _. A) [ | true ↦ x | false ↦ y ])
+by-cases : {A : Type 0} (P : A → Type 0) (b : Bool) (x y : A) → P x → P y → P (elim b as (λ _. A) [ true ↦ x | false ↦ y ])
 by-cases P true x y p q = p
 by-cases P false x y p q = q
 

@@ -1,8 +1,8 @@
 -- Registers, words and units once an instruction has completed; and its fetch.
-use Rattle.std.proofs.Common.{◌≡◌, ℕ, zero, suc, ◌+◌, ◌≤◌, ◌<◌, max, Bool, true, false, List, [], ◌∷◌, ◌++◌, refl, sym, ap, ◌∙◌, arith}
-use Rattle.std.specs.Prelude.{◌&&◌, ◌==◌, nat_le, map, flat_map, filter, find, Option, Some, None, option_map, option_to_list, if◌then◌else◌}
-use Rattle.std.specs.List.{list_all, list_any}
-use Rattle.std.proofs.lemmas.Bool.{and_parts, and_from, false≢true, leb-true, le-leb}
+use Rattle.std.proofs.Common.{◌≡◌, ℕ, ◌≤◌, Bool, true, false, List, [], ◌∷◌, ◌++◌, refl, ap, ◌∙◌, arith}
+use Rattle.std.specs.Prelude.{◌==◌, nat_le, map, flat_map, filter, find, Option, Some, option_map, option_to_list, if◌then◌else◌}
+use Rattle.std.specs.List.{list_all}
+use Rattle.std.proofs.lemmas.Bool.{and_parts, and_from, le-leb}
 use Rattle.vx_image.specs.Pages.{is_canonical, page_of}
 use Rattle.vx_base.specs.declared.machine.Want.TheVariants.{Fetch}
 use Rattle.vx_rows.specs.declared.family.Unit.{Unit}
@@ -10,14 +10,14 @@ use Rattle.vx_rows.specs.declared.family.Unit.TheVariants.{Arithmetic, Multiply,
 use Rattle.vx_tables.specs.Caches.{look_up}
 use Rattle.vx_tables.specs.declared.look.Look.{Look}
 use Rattle.vx_tables.specs.declared.look.Look.TheVariants.{Hit, Denied, Miss}
-use Rattle.vx_episode.specs.Cycles.{Cycle, later, behind, latest, is_by}
+use Rattle.vx_episode.specs.Cycles.{Cycle, later, is_by}
 use Rattle.vx_episode.specs.Cycles.Cycle.{At, Never}
 use Rattle.vx_episode.specs.Footprint.{Access}
-use Rattle.vx_episode.specs.History.{History, Entry, Walk, FetchTimes, BeatTimes, AccessTimes, Ready, register_ready, word_ready, ready_or, unit_number, step_of, latency_of, free_unit, fills_of, fetch_walks}
+use Rattle.vx_episode.specs.History.{History, Walk, FetchTimes, BeatTimes, AccessTimes, Ready, word_ready, ready_or, unit_number, step_of, latency_of, free_unit, fills_of, fetch_walks}
 use Rattle.vx_episode.specs.Instructions.{fetch_at, fetch_by, fetch_times, beat_ready, words_made, is_into, loaded_cycle, places_loaded, words_loaded}
 use Rattle.vx_episode.specs.Organisation.{Start, fetch_entries}
 use Rattle.vx_quiet.proofs.Accesses.{done-from}
-use Rattle.vx_quiet.proofs.Times.{all-both, all-filter, all-more, all-flat_map, by-latest, by-more, by-later, by-shorter}
+use Rattle.vx_quiet.proofs.Times.{all-both, all-filter, by-latest, by-shorter}
 
 -- ---- choices
 
@@ -63,7 +63,7 @@ made-all start k (b ∷ beats) h =
     all-both (λ (r : Ready). is_by k r.cycle) (words_made start b) (flat_map (words_made start) beats) (made-one k (beat_ready start b) parts.0 b.made) (made-all start k beats parts.1)
 
 module _ (start : Start) (history : History) (k : ℕ) (accesses : List AccessTimes) (missing : List Access) (before : (place : ℕ) → is_by k (word_ready start.cycle history place) ≡ true)
-  (done : list_all (λ (a : AccessTimes). nat_le a.done k) accesses ≡ true) (none : missing ≡ []) where
+    (done : list_all (λ (a : AccessTimes). nat_le a.done k) accesses ≡ true) (none : missing ≡ []) where
   loaded-one : (place : ℕ) → is_by k (loaded_cycle start history accesses missing place) ≡ true
   loaded-one place =
       let into : List AccessTimes = filter (λ (a : AccessTimes). is_into start place a.access) accesses in

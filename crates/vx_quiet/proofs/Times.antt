@@ -1,9 +1,9 @@
 -- Cycles that come by another one.
-use Rattle.std.proofs.Common.{◌≡◌, ℕ, zero, suc, ◌+◌, ◌≤◌, ◌<◌, max, Bool, true, false, List, [], ◌∷◌, ◌++◌, refl, sym, ap, ◌∙◌, inl, inr, Some, None, arith}
-use Rattle.std.specs.Prelude.{Option, ◌&&◌, nat_le, map, filter, flat_map, find, option_to_list, if◌then◌else◌}
+use Rattle.std.proofs.Common.{◌≡◌, ℕ, ◌+◌, ◌≤◌, max, Bool, true, false, List, [], ◌∷◌, ◌++◌, refl, sym, ap, ◌∙◌, inl, inr, arith}
+use Rattle.std.specs.Prelude.{◌&&◌, nat_le, map, filter, flat_map, if◌then◌else◌}
 use Rattle.std.specs.List.{list_all}
-use Rattle.std.proofs.lemmas.Bool.{cases_Bool, and_parts, and_from, and_right, false≢true, leb-true, leb-false, le-leb, lt-leb}
-use Rattle.std.proofs.lemmas.List.Folds.{list_all-append, list_all-map}
+use Rattle.std.proofs.lemmas.Bool.{cases_Bool, and_parts, and_from, false≢true, leb-true, leb-false, le-leb, lt-leb}
+use Rattle.std.proofs.lemmas.List.Folds.{list_all-append}
 use Rattle.vx_episode.specs.Cycles.{Cycle, later, behind, later_of, latest, is_by}
 use Rattle.vx_episode.specs.Cycles.Cycle.{At, Never}
 
@@ -53,9 +53,9 @@ and-false false = refl
 max-le : (a b k : ℕ) → nat_le (max a b) k ≡ (nat_le a k && nat_le b k)
 max-le a b k = elim (cases_Bool (nat_le a k)) [
   | inl first ↦ elim (cases_Bool (nat_le b k)) [
-      | inl second ↦ let l = leb-true a k first in let r = leb-true b k second in rw (first, second, le-leb (max a b) k (omega arith)) refl
-      | inr second ↦ let r = leb-false b k second in rw (first, second, lt-leb (max a b) k (omega arith)) refl
-    ]
+    | inl second ↦ let l = leb-true a k first in let r = leb-true b k second in rw (first, second, le-leb (max a b) k (omega arith)) refl
+    | inr second ↦ let r = leb-false b k second in rw (first, second, lt-leb (max a b) k (omega arith)) refl
+  ]
   | inr first ↦ let l = leb-false a k first in rw (first, lt-leb (max a b) k (omega arith)) refl
 ]
 

@@ -1,6 +1,6 @@
 -- Histories in which all that the instructions did is over by the last retire, as it is where one instruction is in flight at a
 -- time. This project's own.
-use Rattle.std.specs.Prelude.{◌≡◌, ℕ, ◌+◌, ◌*◌, ◌≤◌, max, Bool, true, nat_le, List, [], ◌∷◌, length, filter, if◌then◌else◌}
+use Rattle.std.specs.Prelude.{◌≡◌, ℕ, ◌+◌, ◌*◌, ◌≤◌, max, true, nat_le, List, [], ◌∷◌, length, filter}
 use Rattle.std.specs.List.{list_all}
 use Rattle.std.specs.Option.{option_map_or}
 use Rattle.vx_rows.specs.declared.family.Unit.{Unit}

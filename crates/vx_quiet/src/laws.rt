@@ -1,8 +1,7 @@
 ghost use Rattle.std.specs.Prelude.{◌≡◌, ℕ, ◌+◌, ◌<◌, ◌≤◌, max, Some, None, List, [], ◌∷◌, ◌++◌, map, if◌then◌else◌};
 ghost use Rattle.vx_flat.specs.State.{Flat};
-ghost use Rattle.vx_episode.specs.Commits.{What, entry_of, timed, happening, happenings_of};
+ghost use Rattle.vx_episode.specs.Commits.{timed, happening, happenings_of};
 ghost use Rattle.vx_episode.specs.Commits.What.{Completes, Stops};
-ghost use Rattle.vx_episode.specs.Cycles.{Cycle};
 ghost use Rattle.vx_episode.specs.Cycles.Cycle.{At, Never};
 ghost use Rattle.vx_episode.specs.Episode.{greatest, clock_behind, residency_by, trap_cycles};
 ghost use Rattle.vx_episode.specs.Footprint.{Footprint};
@@ -26,7 +25,7 @@ pub fn instructions_issue_behind_a_quiet_history()
 {}
 
 /// A history is quiet at the start. Where one instruction is in flight at a time, it is quiet again behind each instruction that
-/// completes, at its retire, which is the next cycle.
+/// completes, at its retire, which is the cycle behind.
 pub fn a_quiet_history_goes_on()
     ensures begins { (start : Start) → IsQuiet start [] start.cycle }
     ensures retires { (start : Start) (history : History) (s : Flat) (f : Footprint) (retired completed : ℕ) → IsQuiet start history retired → start.machine.window ≡ 1
@@ -48,8 +47,8 @@ pub fn instructions_without_accesses_complete()
         → happenings_of (last_retire start.cycle history) (timed start history s f) ≡ happening (timed start history s f) Completes (completed + 1) ∷ [] }
 {}
 
-/// Where one instruction is in flight at a time, one that stops without an access and without a beat never completes, and all that
-/// happens is that it stops, at its issue.
+/// An instruction that stops without an access never completes. Where one instruction is in flight at a time, all that happens is
+/// that it stops, at its issue, which is once it is fetched and behind the last retire.
 pub fn instructions_without_accesses_stop()
     ensures completed { (start : Start) (history : History) (s : Flat) (f : Footprint) (why : Ended) → f.stop ≡ Some why
         → (timed start history s f).completed ≡ Never }
@@ -58,7 +57,7 @@ pub fn instructions_without_accesses_stop()
     ensures happens { (start : Start) (history : History) (s : Flat) (f : Footprint) (why : Ended) (retired fetched : ℕ) → IsQuiet start history retired → start.machine.window ≡ 1
         → f.stop ≡ Some why → f.batches ≡ [] → (timed start history s f).fetch.ended ≡ At fetched
         → happenings_of (last_retire start.cycle history) (timed start history s f)
-            ≡ happening (timed start history s f) (Stops why s.v.vstart s.v.vstart) (max fetched (retired + 1)) ∷ [] }
+        ≡ happening (timed start history s f) (Stops why s.v.vstart s.v.vstart) (max fetched (retired + 1)) ∷ [] }
 {}
 
 /// What a quiet history did is over by any later cycle: its walks have all ended by then, its accesses were queued, and the clock waits
@@ -68,7 +67,7 @@ pub fn a_quiet_history_is_over()
         → ended_by last (fetch_walks history ++ data_walks history) ≡ fetch_walks history ++ data_walks history }
     ensures residency { (start : Start) (newer history : History) (retired last : ℕ) → IsQuiet start history retired → retired ≤ last
         → residency_by start last (newer ++ history)
-            ≡ after_walks start.residency ((ended_by last (fetch_walks newer) ++ fetch_walks history) ++ (ended_by last (data_walks newer) ++ data_walks history)) }
+        ≡ after_walks start.residency ((ended_by last (fetch_walks newer) ++ fetch_walks history) ++ (ended_by last (data_walks newer) ++ data_walks history)) }
     ensures residency_now { (start : Start) (history : History) (retired last : ℕ) → IsQuiet start history retired → retired ≤ last
         → residency_by start last history ≡ residency_now start history }
     ensures queued { (start : Start) (history : History) (retired last : ℕ) → IsQuiet start history retired → retired ≤ last
