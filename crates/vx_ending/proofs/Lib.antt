@@ -2,3 +2,4 @@ pub mod Fetches
 pub mod Counting
 pub mod Running
 pub mod GoesOn
+pub mod Retiring

@@ -5,8 +5,8 @@ ghost use Rattle.vx_flat.specs.Outcome.Outcome.{Next};
 ghost use Rattle.vx_flat.specs.Process.{Process, stepped};
 ghost use Rattle.vx_flat.specs.State.{Flat};
 ghost use Rattle.vx_flat.specs.Step.{step};
-ghost use Rattle.vx_episode.specs.Commits.{Happening, entry_of, ends, happenings, happenings_of};
-ghost use Rattle.vx_episode.specs.Cycles.{is_by};
+ghost use Rattle.vx_episode.specs.Commits.{Happening, entry_of, commits_of, ends, happenings, happenings_of};
+ghost use Rattle.vx_episode.specs.Cycles.{Cycle, is_by};
 ghost use Rattle.vx_episode.specs.Cycles.Cycle.{At};
 ghost use Rattle.vx_episode.specs.Episode.{end_by, episode, fetched_by};
 ghost use Rattle.vx_episode.specs.History.{Entry, History, last_retire};
@@ -55,4 +55,10 @@ pub fn happenings_are_counted()
     ensures commits { (some others : List Happening) → commits_in (some ++ others) ≡ commits_in some + commits_in others }
     ensures completed { (some others : List Happening) → completed_in (some ++ others) ≡ completed_in some + completed_in others }
     ensures changes { (some others : List Happening) → changes_in (some ++ others) ≡ (changes_in some || changes_in others) }
+{}
+
+/// An instruction that retires commits its batches and completes, and nothing else happens of it.
+pub fn retiring_instructions_commit()
+    ensures { (start : Start) (history : History) (s : Flat) (e : Entry) (before : Cycle) (retired : ℕ) → e ≡ entry_of start history s → e.retired ≡ At retired
+        → happenings_of before e ≡ commits_of e }
 {}
