@@ -1,5 +1,6 @@
-pub mod Fetches
 pub mod Counting
-pub mod Running
+pub mod Fetches
 pub mod GoesOn
+pub mod Parts
 pub mod Retiring
+pub mod Running

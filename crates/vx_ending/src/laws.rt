@@ -1,4 +1,4 @@
-ghost use Rattle.std.specs.Prelude.{◌≡◌, ℕ, ◌+◌, ◌||◌, false, true, List, ◌∷◌, ◌++◌, [], None, Some};
+ghost use Rattle.std.specs.Prelude.{◌≡◌, ℕ, ◌+◌, ◌||◌, false, true, List, ◌∷◌, ◌++◌, [], None, Some, if◌then◌else◌};
 ghost use Rattle.std.specs.List.{list_any};
 ghost use Rattle.vx_flat.specs.Continued.{continued};
 ghost use Rattle.vx_flat.specs.Outcome.Outcome.{Next};
@@ -8,11 +8,12 @@ ghost use Rattle.vx_flat.specs.Step.{step};
 ghost use Rattle.vx_episode.specs.Commits.{Happening, entry_of, commits_of, ends, happenings, happenings_of};
 ghost use Rattle.vx_episode.specs.Cycles.{Cycle, is_by};
 ghost use Rattle.vx_episode.specs.Cycles.Cycle.{At};
-ghost use Rattle.vx_episode.specs.Episode.{end_by, episode, fetched_by};
+ghost use Rattle.vx_episode.specs.Episode.{completes, end_by, episode, fetched_by};
 ghost use Rattle.vx_episode.specs.History.{Entry, History, last_retire};
 ghost use Rattle.vx_episode.specs.Instructions.{fetch_begin};
 ghost use Rattle.vx_episode.specs.Organisation.{Start};
 ghost use Rattle.vx_ending.specs.Counts.{changes_in, commits_in, completed_in};
+ghost use Rattle.vx_ending.specs.Ends.{end_behind, process_behind};
 ghost use Rattle.vx_ending.specs.UnderWay.{IsUnderWay, first_instructions};
 
 /// An episode is under way where it begins, and goes on with an instruction that completes and of which nothing ends it.
@@ -61,4 +62,24 @@ pub fn happenings_are_counted()
 pub fn retiring_instructions_commit()
     ensures { (start : Start) (history : History) (s : Flat) (e : Entry) (before : Cycle) (retired : ℕ) → e ≡ entry_of start history s → e.retired ≡ At retired
         → happenings_of before e ≡ commits_of e }
+{}
+
+/// The parts of such an end, by what is known where the instruction begins: it hasn't completed before what ends the episode, and
+/// the instructions behind which the process stands have.
+pub fn ends_have_parts()
+    ensures completed { (start : Start) (until : ℕ) (from : Process) (n : ℕ) (history : History) (now : Process) (e : Entry) (before after : List Happening) (last : Happening) (fetched : History) → IsUnderWay start until from n history now
+        → e ≡ entry_of start history now.state → happenings_of (last_retire start.cycle history) e ≡ before ++ last ∷ after
+        → (end_by start from (happenings start.cycle history ++ before ++ last ∷ []) last fetched).completed ≡ n + (if completes last.what then 1 else 0) }
+    ensures process { (start : Start) (until : ℕ) (from : Process) (n : ℕ) (history : History) (now : Process) (e : Entry) (before after : List Happening) (last : Happening) (fetched : History) → IsUnderWay start until from n history now
+        → e ≡ entry_of start history now.state → happenings_of (last_retire start.cycle history) e ≡ before ++ last ∷ after
+        → (end_by start from (happenings start.cycle history ++ before ++ last ∷ []) last fetched).process ≡ process_behind last.what now }
+    ensures commits { (start : Start) (until : ℕ) (from : Process) (n : ℕ) (history : History) (now : Process) (e : Entry) (before after : List Happening) (last : Happening) (fetched : History) → IsUnderWay start until from n history now
+        → e ≡ entry_of start history now.state → happenings_of (last_retire start.cycle history) e ≡ before ++ last ∷ after
+        → (end_by start from (happenings start.cycle history ++ before ++ last ∷ []) last fetched).commits ≡ commits_in (happenings start.cycle history) + commits_in (before ++ last ∷ []) }
+    ensures changes { (start : Start) (until : ℕ) (from : Process) (n : ℕ) (history : History) (now : Process) (e : Entry) (before after : List Happening) (last : Happening) (fetched : History) → IsUnderWay start until from n history now
+        → e ≡ entry_of start history now.state → happenings_of (last_retire start.cycle history) e ≡ before ++ last ∷ after
+        → (end_by start from (happenings start.cycle history ++ before ++ last ∷ []) last fetched).changed_vectors ≡ (changes_in (happenings start.cycle history) || changes_in (before ++ last ∷ [])) }
+    ensures whole { (start : Start) (until : ℕ) (from : Process) (n : ℕ) (history : History) (now : Process) (e : Entry) (before after : List Happening) (last : Happening) (fetched : History) → IsUnderWay start until from n history now
+        → e ≡ entry_of start history now.state → happenings_of (last_retire start.cycle history) e ≡ before ++ last ∷ after
+        → end_by start from (happenings start.cycle history ++ before ++ last ∷ []) last fetched ≡ end_behind start n (commits_in (happenings start.cycle history)) (changes_in (happenings start.cycle history)) now before last fetched }
 {}

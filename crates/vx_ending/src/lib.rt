@@ -8,6 +8,6 @@
 mod laws;
 
 pub use laws::{
-    episodes_end, episodes_go_on, happenings_are_counted, instructions_in_flight,
+    ends_have_parts, episodes_end, episodes_go_on, happenings_are_counted, instructions_in_flight,
     retiring_instructions_commit,
 };
