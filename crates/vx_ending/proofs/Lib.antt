@@ -1,0 +1,4 @@
+pub mod Fetches
+pub mod Counting
+pub mod Running
+pub mod GoesOn
