@@ -41,7 +41,7 @@ happen-from : (n : ℕ) (e : Entry) (what : What) (c : Cycle) → is_from n c �
 happen-from n e what (At c) h = and_from (nat_le n c) true h refl
 happen-from n e what Never h = refl
 
-all-not_last : (p : BatchTimes → Bool) (batches : List BatchTimes) → list_all p batches ≡ true → list_all p (not_last batches) ≡ true
+pub all-not_last : (p : BatchTimes → Bool) (batches : List BatchTimes) → list_all p batches ≡ true → list_all p (not_last batches) ≡ true
 all-not_last p [] h = refl
 all-not_last p (b ∷ batches) h = (and_parts (p b) (list_all p batches) h).1
 

@@ -1,14 +1,16 @@
-ghost use Rattle.std.specs.Prelude.{◌≡◌, ℕ, ◌<◌, nat_le, false, [], option_to_list};
+ghost use Rattle.std.specs.Prelude.{◌≡◌, ℕ, ◌<◌, nat_le, true, false, List, [], ◌∷◌, ◌++◌, option_to_list};
 ghost use Rattle.std.specs.List.{list_any};
 ghost use Rattle.vx_flat.specs.State.{Flat};
 ghost use Rattle.vx_episode.specs.Commits.{Happening, timed, happenings_of};
 ghost use Rattle.vx_episode.specs.Cycles.{Cycle, is_by};
 ghost use Rattle.vx_episode.specs.Cycles.Cycle.{At};
 ghost use Rattle.vx_episode.specs.Footprint.{Footprint};
-ghost use Rattle.vx_episode.specs.History.{History, accesses_of, queued_by, walks_of_batches};
+ghost use Rattle.vx_episode.specs.History.{History, last_retire, accesses_of, queued_by, walks_of_batches};
 ghost use Rattle.vx_episode.specs.Instructions.{fetch_times};
 ghost use Rattle.vx_episode.specs.Organisation.{Start};
-ghost use Rattle.vx_quiet.specs.Quiet.{ended_by};
+ghost use Rattle.vx_quiet.specs.Quiet.{IsQuiet, ended_by};
+
+use vx_quiet::{a_quiet_history_goes_on, instructions_without_accesses_stop};
 
 /// An instruction that isn't issued by a cycle has done nothing by then: none of its walks for data has ended, none of its accesses
 /// is queued, and nothing of it is committed. Nor has a fetch walked that begins later.
@@ -22,3 +24,16 @@ pub fn instructions_wait_for_their_issue()
     ensures fetch { (start : Start) (history : History) (pc begun last : ℕ) → last < begun
         → ended_by last (option_to_list (fetch_times start history pc (At begun)).walk) ≡ [] }
 {}
+
+/// What happens of an instruction comes no earlier than its issue. Where one instruction is in flight at a time, the instruction behind
+/// it isn't issued by then.
+pub fn instructions_follow_one_another()
+    ensures issued { (start : Start) (history : History) (s : Flat) (f : Footprint) (retired : Cycle) (before after : List Happening) (h : Happening) → happenings_of retired (timed start history s f) ≡ before ++ h ∷ after
+        → is_by h.cycle (timed start history s f).issued ≡ true }
+    ensures waits { (start : Start) (history : History) (s t : Flat) (f g : Footprint) (retired : ℕ) (before after : List Happening) (h : Happening) → IsQuiet start history retired → start.machine.window ≡ 1
+        → happenings_of (last_retire start.cycle history) (timed start history s f) ≡ before ++ h ∷ after
+        → is_by h.cycle (timed start (timed start history s f ∷ history) t g).issued ≡ false }
+{
+    a_quiet_history_goes_on();
+    instructions_without_accesses_stop();
+}
