@@ -28,7 +28,7 @@ happen-each p e what (At c) each = and_from (p (happening e what c)) true (each 
 happen-each p e what Never each = refl
 
 module _ (p : Happening → Bool) (e : Entry) where
-  batches-each : ((after cycle : ℕ) → p (happening e (Reaches after) cycle) ≡ true) → list_all p (flat_map (batch_commit e) (reverse (not_last e.batches))) ≡ true
+  pub batches-each : ((after cycle : ℕ) → p (happening e (Reaches after) cycle) ≡ true) → list_all p (flat_map (batch_commit e) (reverse (not_last e.batches))) ≡ true
   batches-each each =
       all-flat_map p (batch_commit e) (reverse (not_last e.batches))
       (all-each (λ (b : BatchTimes). list_all p (batch_commit e b)) (λ b. happen-each p e (Reaches b.after) b.committed (each b.after)) (reverse (not_last e.batches)))
@@ -88,7 +88,7 @@ happen-by k e what (At c) h = and_from (nat_le c k) true h refl
 happen-by k e what Never h = refl
 
 module _ (e : Entry) (k : ℕ) (is : RetiresAt e k) (before : Cycle) where
-  abbrev reached : List Happening
+  abbrev pub reached : List Happening
   reached = flat_map (batch_commit e) (reverse (not_last e.batches))
 
   none-stops : filter stops e.batches ≡ []

@@ -25,7 +25,7 @@ use Rattle.vx_course.proofs.Lists.{all-both, all-more, all-each, all-filter, all
 
 -- ---- the completion and the retire
 
-complete-from : (start : Start) (n : ℕ) (stop : Option Ended) (issued generated : Cycle) (f : Footprint) (beats : List BeatTimes) (batches : List BatchTimes) → is_from n issued ≡ true
+pub complete-from : (start : Start) (n : ℕ) (stop : Option Ended) (issued generated : Cycle) (f : Footprint) (beats : List BeatTimes) (batches : List BatchTimes) → is_from n issued ≡ true
     → is_from n (complete_by start stop issued generated f beats batches) ≡ true
 complete-from start n (Some why) issued generated f beats batches h = refl
 complete-from start n None issued generated f beats batches h =

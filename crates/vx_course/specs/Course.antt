@@ -1,15 +1,15 @@
 -- The course of an episode in numbers, as an engine with one instruction in flight keeps it, and what the episode comes to at its
 -- end. This project's own.
-use Rattle.std.specs.Prelude.{ℕ, ◌+◌, ◌≡◌, ◌≤◌, max, Bool, false, ◌||◌, List, ◌∷◌, ◌++◌, map, Option, Some, option_to_list, if◌then◌else◌}
-use Rattle.vx_flat.specs.Process.{Process, stepped}
+use Rattle.std.specs.Prelude.{ℕ, ◌+◌, ◌≡◌, ◌≤◌, max, Bool, false, ◌||◌, List, ◌∷◌, ◌++◌, map, Some, option_to_list, if◌then◌else◌}
+use Rattle.vx_flat.specs.Process.{Process}
 use Rattle.vx_tables.specs.Residency.{Residency}
-use Rattle.vx_episode.specs.Commits.{What, Happening, happenings}
-use Rattle.vx_episode.specs.Commits.What.{Completes, Reaches, Stops}
+use Rattle.vx_episode.specs.Commits.{happenings}
 use Rattle.vx_episode.specs.Cycles.Cycle.{At}
-use Rattle.vx_episode.specs.Episode.{EpisodeEnd, episode, greatest, trap_cycles, within, stopped_at}
+use Rattle.vx_episode.specs.Episode.{EpisodeEnd, episode, fetched_by, greatest, trap_cycles}
 use Rattle.vx_episode.specs.Footprint.{Footprint}
 use Rattle.vx_episode.specs.History.{History, Entry, Walk, AccessTimes, accesses_of, queued_by, walks_of_batches, data_walks, fetch_walks, after_walks}
 use Rattle.vx_episode.specs.Instructions.{fetch_begin, fetch_times}
+use Rattle.vx_episode.specs.Log.{log_up_to}
 use Rattle.vx_episode.specs.Organisation.{Start}
 use Rattle.vx_episode.specs.declared.ended.Ended.{Ended}
 use Rattle.vx_quiet.specs.Quiet.{IsQuiet, ended_by}
@@ -40,23 +40,23 @@ pub record IsOnCourse (start : Start) (until : ℕ) (from : Process) (course : C
 abbrev pub begun_course : Start → Course
 begun_course start = record { retired = start.cycle; begun = start.cycle + 1; commits = 0; completed = 0; changed = false }
 
--- the cycle at which the fetch begins that is behind an instruction
-abbrev pub fetch_behind : (jumps : Bool) → (issued : ℕ) → ℕ
-fetch_behind jumps issued = issued + (if jumps then 2 else 1)
+-- the cycle at which the fetch behind an instruction begins, which was issued at a cycle
+abbrev pub fetch_behind : Footprint → (issued : ℕ) → ℕ
+fetch_behind f issued = issued + (if f.jumps then 2 else 1)
 
--- the course behind an instruction that was issued and completed at these cycles
-abbrev pub course_behind : Course → (jumps : Bool) → (issued completed commits : ℕ) → (changes : Bool) → Course
-course_behind course jumps issued completed commits changes = record {
+-- the course behind an instruction that was issued and completed at these cycles, and committed so often
+abbrev pub course_behind : Course → Footprint → (issued completed commits : ℕ) → Course
+course_behind course f issued completed commits = record {
   retired = completed + 1;
-  begun = fetch_behind jumps issued;
+  begun = fetch_behind f issued;
   commits = course.commits + commits;
   completed = course.completed + 1;
-  changed = course.changed || changes;
+  changed = course.changed || f.changes_vectors;
 }
 
 -- ---- at the end
 
--- what an episode comes to, but for its log
+-- what an episode comes to, but for its log, which is that of the instructions fetched by then
 pub record Ending : Type 0 where
   pub ended : Ended
   pub last : ℕ
@@ -79,6 +79,7 @@ pub record EndsAs (start : Start) (until : ℕ) (from : Process) (ending : Endin
   pub commits : result.commits ≡ ending.commits
   pub completed : result.completed ≡ ending.completed
   pub changed_vectors : result.changed_vectors ≡ ending.changed_vectors
+  pub log : result.log ≡ log_up_to start ending.last (fetched_by start ending.last from.state)
 
 -- the cycle at which the system takes over, where the instruction at the end has these accesses
 abbrev pub clock_by : (last : ℕ) → List AccessTimes → ℕ

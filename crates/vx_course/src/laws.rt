@@ -1,16 +1,25 @@
-ghost use Rattle.std.specs.Prelude.{◌≡◌, ℕ, ◌<◌, nat_le, true, false, List, [], ◌∷◌, ◌++◌, option_to_list};
+ghost use Rattle.std.specs.Prelude.{◌≡◌, ℕ, ◌+◌, ◌<◌, max, nat_le, true, false, None, List, [], ◌∷◌, ◌++◌, option_to_list};
 ghost use Rattle.std.specs.List.{list_any};
+ghost use Rattle.vx_flat.specs.Outcome.Outcome.{Next};
+ghost use Rattle.vx_flat.specs.Process.{Process, stepped};
 ghost use Rattle.vx_flat.specs.State.{Flat};
-ghost use Rattle.vx_episode.specs.Commits.{Happening, timed, happenings_of};
+ghost use Rattle.vx_flat.specs.Step.{step};
+ghost use Rattle.vx_episode.specs.Commits.{Happening, timed, entry_of, ends, happenings_of};
 ghost use Rattle.vx_episode.specs.Cycles.{Cycle, is_by};
 ghost use Rattle.vx_episode.specs.Cycles.Cycle.{At};
-ghost use Rattle.vx_episode.specs.Footprint.{Footprint};
-ghost use Rattle.vx_episode.specs.History.{History, last_retire, accesses_of, queued_by, walks_of_batches};
+ghost use Rattle.vx_episode.specs.Footprint.{Footprint, footprint};
+ghost use Rattle.vx_episode.specs.History.{Entry, History, last_retire, accesses_of, queued_by, walks_of_batches};
 ghost use Rattle.vx_episode.specs.Instructions.{fetch_times};
 ghost use Rattle.vx_episode.specs.Organisation.{Start};
-ghost use Rattle.vx_quiet.specs.Quiet.{IsQuiet, ended_by};
+ghost use Rattle.vx_quiet.specs.Quiet.{IsQuiet, completed_at, ended_by};
+ghost use Rattle.vx_ending.specs.Counts.{commits_in};
+ghost use Rattle.vx_course.specs.Course.{Course, IsOnCourse, begun_course, course_behind};
 
-use vx_quiet::{a_quiet_history_goes_on, instructions_without_accesses_stop};
+use vx_ending::{episodes_go_on, happenings_are_counted};
+use vx_quiet::{
+    a_quiet_history_goes_on, instructions_issue_behind_a_quiet_history, instructions_without_accesses_complete,
+    instructions_without_accesses_stop,
+};
 
 /// An instruction that isn't issued by a cycle has done nothing by then: none of its walks for data has ended, none of its accesses
 /// is queued, and nothing of it is committed. Nor has a fetch walked that begins later.
@@ -36,4 +45,29 @@ pub fn instructions_follow_one_another()
 {
     a_quiet_history_goes_on();
     instructions_without_accesses_stop();
+}
+
+/// Where one instruction is in flight at a time, the course of an episode in numbers: where it begins, and how it goes on with an
+/// instruction that completes and of which nothing ends the episode; in short, with one without accesses.
+pub fn courses_go_on()
+    ensures begins { (start : Start) (until : ℕ) (from : Process) → from.over ≡ None → IsOnCourse start until from (begun_course start) [] from }
+    ensures next { (start : Start) (until : ℕ) (from : Process) (course : Course) (history : History) (now : Process) (e : Entry) (f : Footprint) (t : Flat) (issued completed : ℕ)
+        → IsOnCourse start until from course history now → start.machine.window ≡ 1
+        → e ≡ entry_of start history now.state → f ≡ footprint start.machine start.has_vectors start.residency now.state
+        → step now.state ≡ Next t → e.issued ≡ At issued → e.completed ≡ At completed
+        → list_any (ends until) (happenings_of (last_retire start.cycle history) e) ≡ false
+        → IsOnCourse start until from (course_behind course f issued completed (commits_in (happenings_of (last_retire start.cycle history) e))) (e ∷ history) (stepped now) }
+    ensures without_accesses { (start : Start) (until : ℕ) (from : Process) (course : Course) (history : History) (now : Process) (e : Entry) (f : Footprint) (t : Flat) (fetched issued : ℕ)
+        → IsOnCourse start until from course history now → start.machine.window ≡ 1
+        → e ≡ entry_of start history now.state → f ≡ footprint start.machine start.has_vectors start.residency now.state
+        → step now.state ≡ Next t → f.stop ≡ None → f.batches ≡ [] → e.fetch.ended ≡ At fetched → issued ≡ max fetched (course.retired + 1)
+        → completed_at issued f + 1 < until
+        → IsOnCourse start until from (course_behind course f issued (completed_at issued f) 1) (e ∷ history) (stepped now) }
+{
+    a_quiet_history_goes_on();
+    instructions_issue_behind_a_quiet_history();
+    instructions_without_accesses_complete();
+    instructions_without_accesses_stop();
+    episodes_go_on();
+    happenings_are_counted();
 }

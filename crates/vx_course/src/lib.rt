@@ -7,4 +7,4 @@
 
 mod laws;
 
-pub use laws::{instructions_follow_one_another, instructions_wait_for_their_issue};
+pub use laws::{courses_go_on, instructions_follow_one_another, instructions_wait_for_their_issue};
