@@ -6,3 +6,5 @@ pub mod Behind
 pub mod Cited
 pub mod Changing
 pub mod GoingOn
+pub mod Flight
+pub mod AtEnd
