@@ -1,28 +1,26 @@
 -- What an episode comes to that ends with an instruction.
-use Rattle.std.proofs.Common.{◌≡◌, ℕ, suc, ◌+◌, ◌≤◌, ◌<◌, max, Bool, true, false, List, [], ◌∷◌, ◌++◌, refl, sym, ap, ap₂, ◌∙◌, subst, arith, add-one}
-use Rattle.std.specs.Prelude.{◌||◌, ◌&&◌, nat_le, nat_lt, Some, None, option_to_list, if◌then◌else◌}
+use Rattle.std.proofs.Common.{◌≡◌, ℕ, ◌+◌, ◌≤◌, ◌<◌, max, Bool, true, false, List, [], ◌∷◌, ◌++◌, refl, sym, ap, ap₂, ◌∙◌, subst, arith, add-one}
+use Rattle.std.specs.Prelude.{◌||◌, ◌&&◌, nat_lt, option_to_list, if◌then◌else◌}
 use Rattle.std.specs.List.{list_any}
-use Rattle.std.proofs.lemmas.Bool.{le-leb, lt-leb, le-ltb}
+use Rattle.std.proofs.lemmas.Bool.{le-leb, le-ltb}
 use Rattle.vx_flat.specs.Continued.{continued}
 use Rattle.vx_flat.specs.Process.{Process, stepped, stepped_on}
-use Rattle.vx_flat.specs.State.{Flat}
 use Rattle.vx_episode.specs.Batches.{all_batches, retired_batches}
-use Rattle.vx_episode.specs.Commits.{What, Happening, happening, timed, ends, happenings, happenings_of}
+use Rattle.vx_episode.specs.Commits.{What, Happening, happening, ends, happenings, happenings_of}
 use Rattle.vx_episode.specs.Commits.What.{Completes, Reaches, Stops}
-use Rattle.vx_episode.specs.Cycles.{Cycle}
 use Rattle.vx_episode.specs.Cycles.Cycle.{At}
 use Rattle.vx_episode.specs.Episode.{end_by, fetched_by, commits_by, completes, ended_at, within, stopped_at, process_at, trap_cycles}
-use Rattle.vx_episode.specs.Footprint.{Batch, Footprint, footprint}
-use Rattle.vx_episode.specs.History.{History, Entry, Walk, BatchTimes, last_retire, accesses_of, walks_of_batches, data_walks, fetch_walks, after_walks}
+use Rattle.vx_episode.specs.Footprint.{Batch, Footprint}
+use Rattle.vx_episode.specs.History.{History, Entry, BatchTimes, last_retire, accesses_of, walks_of_batches, data_walks, fetch_walks, after_walks}
 use Rattle.vx_episode.specs.Organisation.{Start}
 use Rattle.vx_episode.specs.declared.ended.Ended.{Ended}
 use Rattle.vx_episode.specs.declared.ended.Ended.TheVariants.{Slice}
-use Rattle.vx_quiet.specs.Quiet.{IsQuiet, ended_by}
+use Rattle.vx_quiet.specs.Quiet.{ended_by}
 use Rattle.vx_ending.specs.Counts.{commits_in, completed_in, changes_in}
 use Rattle.vx_course.specs.Course.{Course, IsOnCourse, fetch_behind, Ending, EndsAs, clock_by, residency_at, walk_behind, ending_of}
 use Rattle.vx_course.proofs.Changing.{or-false, changes-before, stop-commits}
 use Rattle.vx_course.proofs.Cited.{QuietLaws, OverLaws, CountLaws, FlightLaws}
-use Rattle.vx_course.proofs.Completing.{Completion, front-completes-none, retires-somehow}
+use Rattle.vx_course.proofs.Completing.{front-completes-none, retires-somehow}
 use Rattle.vx_course.proofs.Flight.{next_footprint, next_entry, residency-is, clock-is}
 use Rattle.vx_course.proofs.GoingOn.{completion}
 use Rattle.vx_course.proofs.Late.{fetch-late}
@@ -156,15 +154,15 @@ module _ (laws : EndLaws) (start : Start) (until : ℕ) (from : Process) (course
 
   pub ends-at-issue : (why : Ended) (issued : ℕ) → f.batches ≡ [] → e.issued ≡ At issued → happenings_of (last_retire start.cycle history) e ≡ happening e (Stops why now.state.v.vstart now.state.v.vstart) issued ∷ []
       → EndsAs start until from (record {
-          ended = why;
-          last = issued;
-          clock = issued + trap_cycles;
-          process = stopped_at why now.state.v.vstart now;
-          residency = after_walks start.residency (option_to_list e.fetch.walk ++ fetch_walks history ++ data_walks history);
-          commits = course.commits;
-          completed = course.completed;
-          changed_vectors = course.changed;
-        })
+        ended = why;
+        last = issued;
+        clock = issued + trap_cycles;
+        process = stopped_at why now.state.v.vstart now;
+        residency = after_walks start.residency (option_to_list e.fetch.walk ++ fetch_walks history ++ data_walks history);
+        commits = course.commits;
+        completed = course.completed;
+        changed_vectors = course.changed;
+      })
   ends-at-issue why issued batches i parts =
       let k : ℕ = now.state.v.vstart in
       let below : nat_lt k k ≡ false = le-ltb k k (omega arith) in

@@ -1,8 +1,8 @@
 -- The instruction behind one that ends an episode isn't issued by the end.
-use Rattle.std.proofs.Common.{◌≡◌, ℕ, ◌+◌, ◌≤◌, ◌<◌, max, Bool, true, false, List, [], ◌∷◌, ◌++◌, refl, sym, ap, ◌∙◌, inl, inr, arith}
-use Rattle.std.specs.Prelude.{◌||◌, nat_le, map, option_to_list, if◌then◌else◌}
+use Rattle.std.proofs.Common.{◌≡◌, ℕ, ◌+◌, max, Bool, true, false, List, [], ◌∷◌, ◌++◌, refl, sym, ap, ◌∙◌, inl, inr, arith}
+use Rattle.std.specs.Prelude.{nat_le, map, option_to_list, if◌then◌else◌}
 use Rattle.std.specs.List.{list_all, list_any}
-use Rattle.std.proofs.lemmas.Bool.{and_parts, and_from, or_cases, or_left, or_right, cases_Bool, false≢true, leb-true, leb-false, le-leb}
+use Rattle.std.proofs.lemmas.Bool.{and_from, or_cases, or_left, or_right, cases_Bool, false≢true, leb-true, le-leb}
 use Rattle.std.proofs.lemmas.List.Folds.{list_any-append}
 use Rattle.vx_base.specs.declared.machine.Want.TheVariants.{Fetch}
 use Rattle.vx_flat.specs.State.{Flat}
@@ -11,13 +11,13 @@ use Rattle.vx_tables.specs.Caches.{look_up}
 use Rattle.vx_tables.specs.declared.look.Look.{Look}
 use Rattle.vx_tables.specs.declared.look.Look.TheVariants.{Hit, Denied, Miss}
 use Rattle.vx_episode.specs.Commits.{Happening, timed, happenings_of}
-use Rattle.vx_episode.specs.Cycles.{Cycle, later, behind, later_of, latest, is_by}
+use Rattle.vx_episode.specs.Cycles.{Cycle, behind, later_of, latest, is_by}
 use Rattle.vx_episode.specs.Cycles.Cycle.{At, Never}
 use Rattle.vx_episode.specs.Footprint.{Footprint}
 use Rattle.vx_episode.specs.History.{History, Entry, Walk, last_issue, last_retire, retire_before, trimming_before, register_ready, fills_of, fetch_walks}
 use Rattle.vx_episode.specs.Instructions.{fetch_begin, fetch_times, fetch_by, fetch_at, issue_cycle, walk_time}
 use Rattle.vx_episode.specs.Organisation.{Start, fetch_entries}
-use Rattle.vx_course.proofs.From.{is_from, from-late, late-from, from-later, from-first, from-second}
+use Rattle.vx_course.proofs.From.{is_from, from-late, late-from, from-first, from-second}
 use Rattle.vx_course.proofs.Late.{happenings-from, entry-from}
 use Rattle.vx_course.proofs.Lists.{all-middle}
 use Rattle.vx_course.proofs.Completing.{Completion, retires-from, retires-somehow}
@@ -80,9 +80,9 @@ pub issued-by : (start : Start) (history : History) (s : Flat) (f : Footprint) (
 issued-by start history s f retired before after h parts = elim (cases_Bool (is_by h.cycle (timed start history s f).issued)) [
   | inl early ↦ early
   | inr late ↦
-    let is = entry-from start history s f (h.cycle + 1) (from-late h.cycle (timed start history s f).issued late) in
-    absurd (by-itself h.cycle (all-middle (λ (x : Happening). nat_le (h.cycle + 1) x.cycle) before after h
-    (sym (ap (list_all (λ (x : Happening). nat_le (h.cycle + 1) x.cycle)) parts) ∙ happenings-from (h.cycle + 1) (timed start history s f) is retired)))
+      let is = entry-from start history s f (h.cycle + 1) (from-late h.cycle (timed start history s f).issued late) in
+      absurd (by-itself h.cycle (all-middle (λ (x : Happening). nat_le (h.cycle + 1) x.cycle) before after h
+      (sym (ap (list_all (λ (x : Happening). nat_le (h.cycle + 1) x.cycle)) parts) ∙ happenings-from (h.cycle + 1) (timed start history s f) is retired)))
 ]
 
 -- ---- the instruction behind
@@ -137,11 +137,11 @@ module _ (start : Start) (history : History) (s : Flat) (f : Footprint) where
   issue-from begun is =
       let e : Entry = timed start history s f in
       from-first begun e.fetch.ended (latest (
-          behind (last_issue start.cycle history)
-          ∷ map (register_ready start.cycle history) f.reads
-          ++ map behind (retire_before start.machine.window history)
-          ++ map behind (trimming_before history)
-          ++ (if f.is_serial then behind (last_retire start.cycle history) ∷ [] else [])))
+      behind (last_issue start.cycle history)
+      ∷ map (register_ready start.cycle history) f.reads
+      ++ map behind (retire_before start.machine.window history)
+      ++ map behind (trimming_before history)
+      ++ (if f.is_serial then behind (last_retire start.cycle history) ∷ [] else [])))
       (ap (λ (c : Cycle). is_from begun (fetch_times start history s.pc c).ended) is ∙ fetch-from start history s.pc begun)
 
   pub issue-walk : (k : ℕ) → is_by k (timed start history s f).issued ≡ true → list_all (λ (w : Walk). nat_le w.ended k) (option_to_list (timed start history s f).fetch.walk) ≡ true
@@ -149,8 +149,8 @@ module _ (start : Start) (history : History) (s : Flat) (f : Footprint) where
       let e : Entry = timed start history s f in
       fetch-walk start history s.pc k (fetch_begin start history)
       (by-first k e.fetch.ended (latest (
-          behind (last_issue start.cycle history)
-          ∷ map (register_ready start.cycle history) f.reads
-          ++ map behind (retire_before start.machine.window history)
-          ++ map behind (trimming_before history)
-          ++ (if f.is_serial then behind (last_retire start.cycle history) ∷ [] else []))) h)
+      behind (last_issue start.cycle history)
+      ∷ map (register_ready start.cycle history) f.reads
+      ++ map behind (retire_before start.machine.window history)
+      ++ map behind (trimming_before history)
+      ++ (if f.is_serial then behind (last_retire start.cycle history) ∷ [] else []))) h)

@@ -1,14 +1,14 @@
 -- What is counted of an instruction: whether it changes the vector state, and what its last happening comes to.
-use Rattle.std.proofs.Common.{◌≡◌, ℕ, ◌+◌, Bool, true, false, List, [], ◌∷◌, ◌++◌, refl, sym, ap, ◌∙◌}
-use Rattle.std.specs.Prelude.{◌&&◌, ◌||◌, not, nat_lt, length, filter, if◌then◌else◌}
-use Rattle.std.specs.List.{list_all, list_any}
-use Rattle.std.proofs.lemmas.Bool.{and_parts, and_right, or_from, or_right, false≢true}
-use Rattle.vx_episode.specs.Commits.{What, Happening, happening, happenings_of}
-use Rattle.vx_episode.specs.Commits.What.{Completes, Reaches, Stops}
+use Rattle.std.proofs.Common.{◌≡◌, ℕ, Bool, true, false, List, [], ◌∷◌, ◌++◌, refl, sym, ap, ◌∙◌}
+use Rattle.std.specs.Prelude.{◌&&◌, ◌||◌, not, length, if◌then◌else◌}
+use Rattle.std.specs.List.{list_all}
+use Rattle.std.proofs.lemmas.Bool.{and_right, or_from, or_right, false≢true}
+use Rattle.vx_episode.specs.Commits.{Happening, happening, happenings_of}
+use Rattle.vx_episode.specs.Commits.What.{Completes}
 use Rattle.vx_episode.specs.Cycles.{Cycle}
 use Rattle.vx_episode.specs.Episode.{commits_by}
 use Rattle.vx_episode.specs.History.{Entry}
-use Rattle.vx_ending.specs.Counts.{commits_in, changes_in}
+use Rattle.vx_ending.specs.Counts.{changes_in}
 use Rattle.vx_course.proofs.Cited.{CountLaws}
 use Rattle.vx_course.proofs.Lists.{any-none, all-parts}
 use Rattle.vx_course.proofs.Completing.{RetiresAt, reached, happenings-are, batches-each, happenings-each}

@@ -1,12 +1,10 @@
 -- The laws of quiet histories and of episodes that are cited here.
-use Rattle.std.proofs.Common.{◌≡◌, ℕ, ◌+◌, ◌≤◌, Bool, true, false, List, [], ◌∷◌, ◌++◌}
-use Rattle.std.specs.Prelude.{◌||◌, Option, Some, None, max}
+use Rattle.std.proofs.Common.{◌≡◌, ℕ, ◌+◌, ◌≤◌, true, false, List, [], ◌∷◌, ◌++◌}
+use Rattle.std.specs.Prelude.{◌||◌, Some}
 use Rattle.std.specs.List.{list_any}
 use Rattle.vx_flat.specs.Continued.{continued}
-use Rattle.vx_flat.specs.Outcome.Outcome.{Next}
-use Rattle.vx_flat.specs.Process.{Process, stepped}
+use Rattle.vx_flat.specs.Process.{Process}
 use Rattle.vx_flat.specs.State.{Flat}
-use Rattle.vx_flat.specs.Step.{step}
 use Rattle.vx_episode.specs.Commits.{Happening, timed, entry_of, ends, happenings, happenings_of}
 use Rattle.vx_episode.specs.Cycles.{is_by}
 use Rattle.vx_episode.specs.Cycles.Cycle.{At, Never}

@@ -1,13 +1,12 @@
 -- The instructions in flight at the end of an episode, what their walks have done to the residency, and when their accesses are done.
-use Rattle.std.proofs.Common.{◌≡◌, ℕ, ◌+◌, ◌≤◌, ◌<◌, max, Bool, true, false, List, [], ◌∷◌, ◌++◌, refl, sym, ap, ◌∙◌, arith}
-use Rattle.std.specs.Prelude.{nat_le, map, filter, option_to_list, if◌then◌else◌}
+use Rattle.std.proofs.Common.{◌≡◌, ℕ, ◌+◌, ◌≤◌, ◌<◌, Bool, true, false, List, [], ◌∷◌, ◌++◌, refl, sym, ap, ◌∙◌, arith}
+use Rattle.std.specs.Prelude.{nat_le, map, option_to_list, if◌then◌else◌}
 use Rattle.std.proofs.lemmas.Bool.{leb-true, leb-false, le-leb}
 use Rattle.std.proofs.lemmas.Grind.{flat_map-append}
 use Rattle.std.proofs.lemmas.List.{append-nil}
 use Rattle.std.proofs.lemmas.List.Elements.{filter-append}
 use Rattle.vx_flat.specs.Continued.{continued}
 use Rattle.vx_flat.specs.Process.{Process}
-use Rattle.vx_flat.specs.State.{Flat}
 use Rattle.vx_episode.specs.Commits.{Happening, timed, entry_of, happenings_of}
 use Rattle.vx_episode.specs.Cycles.{Cycle, later, is_by}
 use Rattle.vx_episode.specs.Cycles.Cycle.{At}
@@ -16,7 +15,7 @@ use Rattle.vx_episode.specs.Footprint.{Footprint, footprint}
 use Rattle.vx_episode.specs.History.{History, Entry, Walk, BatchTimes, AccessTimes, last_retire, batches_of, accesses_of, queued_by, walks_of_batches, data_walks, fetch_walks, after_walks}
 use Rattle.vx_episode.specs.Instructions.{fetch_begin, fetch_times}
 use Rattle.vx_episode.specs.Organisation.{Start}
-use Rattle.vx_quiet.specs.Quiet.{IsQuiet, ended_by}
+use Rattle.vx_quiet.specs.Quiet.{ended_by}
 use Rattle.vx_course.specs.Course.{Course, IsOnCourse, fetch_behind, clock_by, residency_at, walk_behind}
 use Rattle.vx_course.proofs.Behind.{issue-behind, issued-by, waits-behind, issue-from, issue-walk}
 use Rattle.vx_course.proofs.Cited.{QuietLaws, OverLaws, FlightLaws}

@@ -1,8 +1,8 @@
 -- What comes from a cycle on: the batches of an instruction that is issued from then on.
-use Rattle.std.proofs.Common.{◌≡◌, ℕ, ◌+◌, ◌≤◌, max, Bool, true, false, List, [], ◌∷◌, ◌++◌, refl, sym, ap, ◌∙◌, arith}
-use Rattle.std.specs.Prelude.{nat_le, map, filter, find, flat_map, reverse, Option, Some, None, if◌then◌else◌}
+use Rattle.std.proofs.Common.{◌≡◌, ℕ, ◌+◌, max, Bool, true, false, List, [], ◌∷◌, ◌++◌, refl, arith}
+use Rattle.std.specs.Prelude.{nat_le, map, find, flat_map, reverse, Option, Some, if◌then◌else◌}
 use Rattle.std.specs.List.{list_all, list_any}
-use Rattle.std.proofs.lemmas.Bool.{and_parts, and_from, false≢true, leb-true, leb-false, le-leb, lt-leb}
+use Rattle.std.proofs.lemmas.Bool.{and_parts, and_from, leb-true, leb-false, le-leb, lt-leb}
 use Rattle.vx_base.specs.declared.machine.Want.{Want}
 use Rattle.vx_tables.specs.Residency.{is_store}
 use Rattle.vx_tables.specs.declared.look.Look.{Look}
@@ -10,7 +10,7 @@ use Rattle.vx_tables.specs.declared.look.Look.TheVariants.{Hit, Denied, Miss}
 use Rattle.vx_tables.specs.declared.walked.Walked.{Walked}
 use Rattle.vx_tables.specs.declared.walked.Walked.TheVariants as walked
 use Rattle.vx_image.specs.Pages.{page_of}
-use Rattle.vx_episode.specs.Batches.{Fate, Judged, Waiting, fate_walked, fate_by_walk, fate_looked, fate_of, look_of, is_of_page, is_refused, is_unknown, is_failing, fails_by, queued_to, unless_failed, queue_cycle, walks_end, walk_behind, walks_with, walks_of, judged, waiting_as, waiting_of, queue_of, served_at, serve_cycle, served_in_turn, start_cycle, commit_cycle, with_commit, batch_judged, batch_started, batch_times, all_batches, retired_batches}
+use Rattle.vx_episode.specs.Batches.{Fate, Judged, Waiting, fate_walked, fate_by_walk, fate_looked, fate_of, look_of, is_of_page, is_refused, is_unknown, is_failing, fails_by, queued_to, unless_failed, queue_cycle, walks_end, walk_behind, walks_with, walks_of, judged, waiting_as, waiting_of, queue_of, served_at, serve_cycle, served_in_turn, start_cycle, commit_cycle, with_commit, batch_started, batch_times, all_batches, retired_batches}
 use Rattle.vx_episode.specs.Batches.Fate.{Good, Fails, Unknown}
 use Rattle.vx_episode.specs.Cycles.{Cycle, later, behind, later_of, latest, is_by}
 use Rattle.vx_episode.specs.Cycles.Cycle.{At, Never}
@@ -19,7 +19,7 @@ use Rattle.vx_episode.specs.History.{History, Walk, BatchTimes, AccessTimes, las
 use Rattle.vx_episode.specs.Instructions.{walk_time}
 use Rattle.vx_episode.specs.Ordered.{placed, ordered}
 use Rattle.vx_episode.specs.Organisation.{Start, Organisation}
-use Rattle.vx_course.proofs.Lists.{all-both, all-more, all-each, all-if, all-flat_map, all-reverse}
+use Rattle.vx_course.proofs.Lists.{all-both, all-more, all-if, all-flat_map, all-reverse}
 
 -- ---- cycles
 

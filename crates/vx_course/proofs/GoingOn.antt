@@ -1,25 +1,23 @@
 -- A course begins, and goes on behind an instruction that completes.
-use Rattle.std.proofs.Common.{◌≡◌, ℕ, ◌+◌, ◌≤◌, ◌<◌, max, Bool, true, false, List, [], ◌∷◌, ◌++◌, refl, sym, ap, ap₂, ◌∙◌, subst, arith}
-use Rattle.std.specs.Prelude.{◌||◌, nat_le, Option, Some, None, if◌then◌else◌}
+use Rattle.std.proofs.Common.{◌≡◌, ℕ, ◌+◌, ◌≤◌, ◌<◌, Bool, true, false, List, [], ◌∷◌, refl, sym, ap, ap₂, ◌∙◌, subst, arith}
+use Rattle.std.specs.Prelude.{◌||◌, nat_le, if◌then◌else◌}
 use Rattle.std.specs.List.{list_any}
 use Rattle.std.proofs.lemmas.Bool.{leb-true, le-leb, lt-leb, or_from}
-use Rattle.vx_flat.specs.Outcome.Outcome.{Next}
 use Rattle.vx_flat.specs.Process.{Process, stepped}
 use Rattle.vx_flat.specs.State.{Flat}
-use Rattle.vx_flat.specs.Step.{step}
 use Rattle.vx_episode.specs.Batches.{all_batches}
 use Rattle.vx_episode.specs.Commits.{Happening, happening, timed, entry_of, ends, happenings, happenings_of}
 use Rattle.vx_episode.specs.Commits.What.{Completes}
-use Rattle.vx_episode.specs.Cycles.{Cycle, later}
-use Rattle.vx_episode.specs.Cycles.Cycle.{At, Never}
+use Rattle.vx_episode.specs.Cycles.{later}
+use Rattle.vx_episode.specs.Cycles.Cycle.{At}
 use Rattle.vx_episode.specs.Footprint.{Footprint, footprint}
 use Rattle.vx_episode.specs.History.{History, Entry, BatchTimes, last_retire}
-use Rattle.vx_episode.specs.Instructions.{fetch_begin, beat_times, generation_cycle}
+use Rattle.vx_episode.specs.Instructions.{beat_times, generation_cycle}
 use Rattle.vx_episode.specs.Organisation.{Start}
-use Rattle.vx_quiet.specs.Quiet.{IsQuiet, completed_at}
-use Rattle.vx_ending.specs.Counts.{commits_in, changes_in}
+use Rattle.vx_quiet.specs.Quiet.{IsQuiet}
+use Rattle.vx_ending.specs.Counts.{commits_in}
 use Rattle.vx_ending.specs.UnderWay.{IsUnderWay}
-use Rattle.vx_course.specs.Course.{Course, IsOnCourse, begun_course, fetch_behind, course_behind}
+use Rattle.vx_course.specs.Course.{Course, IsOnCourse, begun_course, course_behind}
 use Rattle.vx_course.proofs.Changing.{changes-retired}
 use Rattle.vx_course.proofs.Completing.{Completion, completes-at}
 use Rattle.vx_course.proofs.From.{is_from}
@@ -71,8 +69,8 @@ module _ (quiets : QuietLaws) (counts : CountLaws) (start : Start) (until : ℕ)
         soon = soon-behind f.jumps issued completed (completes-from start history now.state f issued completed i c);
         commits_are = counts.commits (happenings start.cycle history) happened ∙ ap (λ (n : ℕ). n + commits_in happened) on.commits_are;
         changed_is =
-        counts.changes (happenings start.cycle history) happened
-        ∙ ap₂ (λ (a b : Bool). a || b) on.changed_is (changes-retired counts e (completed + 1) (completes-at start history now.state f known completed c) (last_retire start.cycle history));
+            counts.changes (happenings start.cycle history) happened
+            ∙ ap₂ (λ (a b : Bool). a || b) on.changed_is (changes-retired counts e (completed + 1) (completes-at start history now.state f known completed c) (last_retire start.cycle history));
       }
 
 -- ---- in terms of an instruction and its footprint

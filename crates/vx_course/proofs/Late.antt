@@ -1,27 +1,27 @@
 -- An instruction that isn't issued by a cycle has done nothing by then.
-use Rattle.std.proofs.Common.{◌≡◌, ℕ, ◌+◌, ◌≤◌, ◌<◌, Bool, true, false, List, [], ◌∷◌, ◌++◌, refl, sym, ap, ◌∙◌, arith}
+use Rattle.std.proofs.Common.{◌≡◌, ℕ, ◌+◌, ◌<◌, Bool, true, false, List, [], ◌∷◌, ◌++◌, refl, arith}
 use Rattle.std.specs.Prelude.{nat_le, nat_lt, map, filter, flat_map, reverse, Option, Some, None, option_to_list, if◌then◌else◌}
 use Rattle.std.specs.List.{list_all, list_any}
-use Rattle.std.proofs.lemmas.Bool.{and_parts, and_from, leb-true, le-leb, lt-leb}
+use Rattle.std.proofs.lemmas.Bool.{and_parts, and_from, lt-leb}
 use Rattle.vx_base.specs.declared.machine.Want.TheVariants.{Fetch}
 use Rattle.vx_flat.specs.State.{Flat}
 use Rattle.vx_image.specs.Pages.{is_canonical, page_of}
 use Rattle.vx_tables.specs.Caches.{look_up}
 use Rattle.vx_tables.specs.declared.look.Look.{Look}
 use Rattle.vx_tables.specs.declared.look.Look.TheVariants.{Hit, Denied, Miss}
-use Rattle.vx_episode.specs.Batches.{all_batches, retired_batches}
-use Rattle.vx_episode.specs.Commits.{What, Happening, happening, timed, batch_commit, not_last, commits_of, serial_stop, why_stopped, batch_stop_cycle, batch_stop_by, batch_stop, happenings_of}
+use Rattle.vx_episode.specs.Batches.{all_batches}
+use Rattle.vx_episode.specs.Commits.{What, Happening, happening, timed, batch_commit, not_last, commits_of, serial_stop, why_stopped, batch_stop_by, batch_stop, happenings_of}
 use Rattle.vx_episode.specs.Commits.What.{Completes, Reaches, Stops}
 use Rattle.vx_episode.specs.Cycles.{Cycle, later, behind, later_of, latest, is_by, cycles_of}
 use Rattle.vx_episode.specs.Cycles.Cycle.{At, Never}
 use Rattle.vx_episode.specs.Footprint.{Footprint}
-use Rattle.vx_episode.specs.History.{History, Entry, Walk, FetchTimes, BeatTimes, BatchTimes, AccessTimes, Failure, last_retire, stops, batches_of, accesses_of, queued_by, batch_done, walks_of_batches, fills_of, fetch_walks}
-use Rattle.vx_episode.specs.Instructions.{fetch_begin, fetch_times, fetch_by, fetch_at, beat_times, beat_ready, generation_cycle, complete_by, retire_cycle, walk_time}
+use Rattle.vx_episode.specs.History.{History, Entry, Walk, BeatTimes, BatchTimes, AccessTimes, Failure, last_retire, stops, accesses_of, queued_by, batch_done, walks_of_batches, fills_of, fetch_walks}
+use Rattle.vx_episode.specs.Instructions.{fetch_times, fetch_by, fetch_at, beat_times, beat_ready, generation_cycle, complete_by, retire_cycle, walk_time}
 use Rattle.vx_episode.specs.Organisation.{Start, fetch_entries}
 use Rattle.vx_episode.specs.declared.ended.Ended.{Ended}
 use Rattle.vx_quiet.specs.Quiet.{ended_by}
 use Rattle.vx_course.proofs.From.{is_from, from-late, from-later, from-first, from-second, AreFrom, all-from, retired-from}
-use Rattle.vx_course.proofs.Lists.{all-both, all-more, all-each, all-filter, all-flat_map, all-reverse, filter-none, any-none, le-refused}
+use Rattle.vx_course.proofs.Lists.{all-both, all-more, all-filter, all-flat_map, all-reverse, filter-none, any-none, le-refused}
 
 -- ---- the completion and the retire
 

@@ -85,34 +85,34 @@ pub fn courses_end()
         → e ≡ entry_of start history now.state → f ≡ footprint start.machine start.has_vectors start.residency now.state → e.issued ≡ At issued
         → happenings_of (last_retire start.cycle history) e ≡ before ++ happening e Completes cycle ∷ after → list_any (ends until) before ≡ false → until ≤ cycle
         → EndsAs start until from (ending_of start history e (walk_behind start history e (continued now.state).pc (fetch_behind f issued)) cycle Slice (stepped now)
-            (course.commits + commits_in before + 1) (course.completed + 1) (course.changed || f.changes_vectors)) }
+        (course.commits + commits_in before + 1) (course.completed + 1) (course.changed || f.changes_vectors)) }
     ensures reaches { (start : Start) (until : ℕ) (from : Process) (course : Course) (history : History) (now : Process) (e : Entry) (f : Footprint) (before after : List Happening) (element issued cycle : ℕ)
         → IsOnCourse start until from course history now → start.machine.window ≡ 1
         → e ≡ entry_of start history now.state → f ≡ footprint start.machine start.has_vectors start.residency now.state → e.issued ≡ At issued
         → happenings_of (last_retire start.cycle history) e ≡ before ++ happening e (Reaches element) cycle ∷ after → list_any (ends until) before ≡ false → until ≤ cycle
         → EndsAs start until from (ending_of start history e (walk_behind start history e (continued now.state).pc (fetch_behind f issued)) cycle Slice (within element now)
-            (course.commits + commits_in before + 1) course.completed (course.changed || f.changes_vectors)) }
+        (course.commits + commits_in before + 1) course.completed (course.changed || f.changes_vectors)) }
     ensures stops { (start : Start) (until : ℕ) (from : Process) (course : Course) (history : History) (now : Process) (e : Entry) (f : Footprint) (before after : List Happening) (why : Ended) (first element issued cycle : ℕ)
         → IsOnCourse start until from course history now → start.machine.window ≡ 1
         → e ≡ entry_of start history now.state → f ≡ footprint start.machine start.has_vectors start.residency now.state → e.issued ≡ At issued
         → happenings_of (last_retire start.cycle history) e ≡ before ++ happening e (Stops why first element) cycle ∷ after → list_any (ends until) before ≡ false
         → EndsAs start until from (ending_of start history e (walk_behind start history e (continued now.state).pc (fetch_behind f issued)) cycle why (stopped_at why element now)
-            (course.commits + commits_in before + (if nat_lt first element then 1 else 0)) course.completed
-            (course.changed || changes_in before || (nat_lt first element && f.changes_vectors))) }
+        (course.commits + commits_in before + (if nat_lt first element then 1 else 0)) course.completed
+        (course.changed || changes_in before || (nat_lt first element && f.changes_vectors))) }
     ensures at_issue { (start : Start) (until : ℕ) (from : Process) (course : Course) (history : History) (now : Process) (e : Entry) (f : Footprint) (why : Ended) (fetched issued : ℕ)
         → IsOnCourse start until from course history now → start.machine.window ≡ 1
         → e ≡ entry_of start history now.state → f ≡ footprint start.machine start.has_vectors start.residency now.state
         → f.stop ≡ Some why → f.batches ≡ [] → e.fetch.ended ≡ At fetched → issued ≡ max fetched (course.retired + 1)
         → EndsAs start until from (record {
-            ended = why;
-            last = issued;
-            clock = issued + trap_cycles;
-            process = stopped_at why now.state.v.vstart now;
-            residency = after_walks start.residency (option_to_list e.fetch.walk ++ fetch_walks history ++ data_walks history);
-            commits = course.commits;
-            completed = course.completed;
-            changed_vectors = course.changed;
-          }) }
+          ended = why;
+          last = issued;
+          clock = issued + trap_cycles;
+          process = stopped_at why now.state.v.vstart now;
+          residency = after_walks start.residency (option_to_list e.fetch.walk ++ fetch_walks history ++ data_walks history);
+          commits = course.commits;
+          completed = course.completed;
+          changed_vectors = course.changed;
+        }) }
 {
     a_quiet_history_goes_on();
     a_quiet_history_is_over();

@@ -8,5 +8,6 @@
 mod laws;
 
 pub use laws::{
-    courses_end, courses_fetch, courses_go_on, instructions_follow_one_another, instructions_wait_for_their_issue,
+    courses_end, courses_fetch, courses_go_on, instructions_follow_one_another,
+    instructions_wait_for_their_issue,
 };

@@ -1,13 +1,13 @@
-use Rattle.std.proofs.Common.{◌≡◌, ℕ, ◌+◌, ◌≤◌, max, false, List, [], ◌∷◌, ◌++◌, refl, sym, ap, ◌∙◌}
+use Rattle.std.proofs.Common.{◌≡◌, ℕ, ◌+◌, ◌≤◌, false, [], ◌∷◌, ◌++◌, sym, ap, ◌∙◌}
 use Rattle.std.specs.Prelude.{◌||◌, ◌&&◌, nat_lt, option_to_list, if◌then◌else◌}
 use Rattle.std.specs.List.{list_any}
 use Rattle.vx_flat.specs.Continued.{continued}
 use Rattle.vx_flat.specs.Process.{stepped}
-use Rattle.vx_episode.specs.Commits.{Happening, happening, timed, entry_of, ends, happenings_of}
+use Rattle.vx_episode.specs.Commits.{happening, timed, ends, happenings_of}
 use Rattle.vx_episode.specs.Commits.What.{Completes, Reaches, Stops}
 use Rattle.vx_episode.specs.Cycles.Cycle.{At}
 use Rattle.vx_episode.specs.Episode.{within, stopped_at, trap_cycles}
-use Rattle.vx_episode.specs.Footprint.{Footprint, footprint}
+use Rattle.vx_episode.specs.Footprint.{Footprint}
 use Rattle.vx_episode.specs.History.{Entry, last_retire, fetch_walks, data_walks, after_walks}
 use Rattle.vx_episode.specs.declared.ended.Ended.TheVariants.{Slice}
 use Rattle.vx_ending.specs.Counts.{commits_in, changes_in}
@@ -61,15 +61,15 @@ returns-clause-at_issue c start until from course history now e f why fetched is
     next-of
     (λ (e : Entry) (f : Footprint). f.batches ≡ [] → e.issued ≡ At issued → happenings_of (last_retire start.cycle history) e ≡ happening e (Stops why now.state.v.vstart now.state.v.vstart) issued ∷ []
     → EndsAs start until from (record {
-        ended = why;
-        last = issued;
-        clock = issued + trap_cycles;
-        process = stopped_at why now.state.v.vstart now;
-        residency = after_walks start.residency (option_to_list e.fetch.walk ++ fetch_walks history ++ data_walks history);
-        commits = course.commits;
-        completed = course.completed;
-        changed_vectors = course.changed;
-      }))
+      ended = why;
+      last = issued;
+      clock = issued + trap_cycles;
+      process = stopped_at why now.state.v.vstart now;
+      residency = after_walks start.residency (option_to_list e.fetch.walk ++ fetch_walks history ++ data_walks history);
+      commits = course.commits;
+      completed = course.completed;
+      changed_vectors = course.changed;
+    }))
     start history now.state e f e-is f-is
     (ends-at-issue (laws c) start until from course history now on one why issued)
     batches

@@ -1,13 +1,13 @@
-use Rattle.std.proofs.Common.{◌≡◌, ℕ, ◌+◌, ◌<◌, max, Bool, true, false, List, [], ◌∷◌, ◌++◌, refl, sym, ap, ◌∙◌, arith}
+use Rattle.std.proofs.Common.{◌≡◌, ℕ, Bool, false, [], ◌∷◌, ◌++◌, sym, ap, ◌∙◌}
 use Rattle.std.specs.Prelude.{nat_le, if◌then◌else◌}
 use Rattle.std.proofs.lemmas.Bool.{lt-leb}
 use Rattle.vx_flat.specs.Continued.{continued}
-use Rattle.vx_episode.specs.Commits.{Happening, happening, timed, entry_of, happenings_of}
+use Rattle.vx_episode.specs.Commits.{happening, timed, entry_of, happenings_of}
 use Rattle.vx_episode.specs.Commits.What.{Stops}
 use Rattle.vx_episode.specs.Cycles.Cycle.{At}
 use Rattle.vx_episode.specs.Episode.{fetched_by}
-use Rattle.vx_episode.specs.Footprint.{Footprint, footprint}
-use Rattle.vx_episode.specs.History.{History, Entry, last_retire}
+use Rattle.vx_episode.specs.Footprint.{Footprint}
+use Rattle.vx_episode.specs.History.{Entry, last_retire}
 use Rattle.vx_course.specs.Course.{fetch_behind}
 use Rattle.vx_course.proofs.Cited.{QuietLaws, FlightLaws}
 use Rattle.vx_course.proofs.Flight.{fetched-is}

@@ -1,16 +1,15 @@
-use Rattle.std.proofs.Common.{◌≡◌, ℕ, ◌+◌, max, List, [], ◌∷◌, refl, sym, ap, ◌∙◌, subst}
-use Rattle.std.specs.Prelude.{Some, None}
+use Rattle.std.proofs.Common.{◌≡◌, ℕ, ◌+◌, [], ◌∷◌, sym, ap, ◌∙◌, subst}
 use Rattle.vx_flat.specs.Process.{stepped}
 use Rattle.std.specs.List.{list_any}
-use Rattle.vx_episode.specs.Commits.{Happening, happening, timed, ends, happenings_of}
+use Rattle.vx_episode.specs.Commits.{happening, timed, ends, happenings_of}
 use Rattle.vx_episode.specs.Commits.What.{Completes}
 use Rattle.vx_episode.specs.Cycles.Cycle.{At}
-use Rattle.vx_episode.specs.Footprint.{Footprint, footprint}
+use Rattle.vx_episode.specs.Footprint.{footprint}
 use Rattle.vx_episode.specs.History.{Entry, last_retire}
 use Rattle.vx_quiet.specs.Quiet.{completed_at}
 use Rattle.vx_ending.specs.Counts.{commits_in}
 use Rattle.vx_course.specs.Course.{IsOnCourse, course_behind}
-use Rattle.vx_course.proofs.GoingOn.{course-begins, course-next, next-of, none-ends}
+use Rattle.vx_course.proofs.GoingOn.{course-begins, course-next, none-ends}
 use Rattle.vx_course.proofs.Cited.{QuietLaws, CountLaws}
 use Rattle.vx_course.proofs.laws.courses_go_on.Goals as goal
 
