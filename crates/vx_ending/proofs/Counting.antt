@@ -70,7 +70,7 @@ module _ (e : Entry) where
       completed-append (batch_stop_by before e b b.failure) (flat_map (λ (b : BatchTimes). batch_stop_by before e b b.failure) batches)
       ∙ ap₂ (λ (m n : ℕ). m + n) (batch-none before b b.failure) (stops-none before batches)
 
-  abbrev commits-before : List Happening
+  abbrev pub commits-before : List Happening
   commits-before = flat_map (batch_commit e) (reverse (not_last e.batches))
 
   pub completed-once : (before : Cycle) → completed_in (happenings_of before e) ≡ length (cycles_of e.retired)

@@ -1,4 +1,7 @@
-pub mod Fetches
+pub mod Changing
 pub mod Counting
-pub mod Running
+pub mod Fetches
 pub mod GoesOn
+pub mod Parts
+pub mod Retiring
+pub mod Running

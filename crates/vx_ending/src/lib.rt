@@ -7,4 +7,7 @@
 
 mod laws;
 
-pub use laws::{episodes_end, episodes_go_on, happenings_are_counted, instructions_in_flight};
+pub use laws::{
+    ends_have_parts, episodes_end, episodes_go_on, happenings_are_counted, instructions_in_flight,
+    retiring_instructions_commit,
+};
