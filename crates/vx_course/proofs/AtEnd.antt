@@ -1,6 +1,6 @@
 -- What an episode comes to that ends with an instruction.
 use Rattle.std.proofs.Common.{◌≡◌, ℕ, ◌+◌, ◌≤◌, ◌<◌, max, Bool, true, false, List, [], ◌∷◌, ◌++◌, refl, sym, ap, ap₂, ◌∙◌, subst, arith, add-one}
-use Rattle.std.specs.Prelude.{◌||◌, ◌&&◌, nat_lt, option_to_list, if◌then◌else◌}
+use Rattle.std.specs.Prelude.{Some, ◌||◌, ◌&&◌, nat_lt, option_to_list, if◌then◌else◌}
 use Rattle.std.specs.List.{list_any}
 use Rattle.std.proofs.lemmas.Bool.{le-leb, le-ltb}
 use Rattle.vx_flat.specs.Continued.{continued}
@@ -16,63 +16,27 @@ use Rattle.vx_episode.specs.Organisation.{Start}
 use Rattle.vx_episode.specs.declared.ended.Ended.{Ended}
 use Rattle.vx_episode.specs.declared.ended.Ended.TheVariants.{Slice}
 use Rattle.vx_quiet.specs.Quiet.{ended_by}
-use Rattle.vx_ending.specs.Counts.{commits_in, completed_in, changes_in}
+use Rattle.vx_ending.specs.Counts.{commits_in, changes_in}
+use Rattle.vx_ending.specs.Ends.{end_behind, process_behind}
 use Rattle.vx_course.specs.Course.{Course, IsOnCourse, fetch_behind, Ending, EndsAs, clock_by, residency_at, walk_behind, ending_of}
-use Rattle.vx_course.proofs.Changing.{or-false, changes-before, stop-commits}
-use Rattle.vx_course.proofs.Cited.{QuietLaws, OverLaws, CountLaws, FlightLaws}
-use Rattle.vx_course.proofs.Completing.{front-completes-none, retires-somehow}
+use Rattle.vx_course.proofs.Changing.{or-false, commits-last, changes-last, changes-with}
+use Rattle.vx_course.proofs.Cited.{QuietLaws, OverLaws, CountLaws, FlightLaws, EndLaws}
 use Rattle.vx_course.proofs.Flight.{next_footprint, next_entry, residency-is, clock-is}
-use Rattle.vx_course.proofs.GoingOn.{completion}
 use Rattle.vx_course.proofs.Late.{fetch-late}
 
-pub record EndLaws : Type 0 where
+pub record Laws : Type 0 where
   pub quiets : QuietLaws
   pub overs : OverLaws
   pub counts : CountLaws
   pub flight : FlightLaws
-
--- the process at the end
-abbrev pub process_behind : What → Process → Process
-process_behind Completes now = stepped now
-process_behind (Reaches element) now = within element now
-process_behind (Stops why first element) now = stopped_at why element now
-
-process-is : (what : What) (n : ℕ) (from now : Process) → now ≡ stepped_on n from → process_at what (stepped_on (n + (if completes what then 1 else 0)) from) ≡ process_behind what now
-process-is Completes n from now is = ap (λ (m : ℕ). stepped_on m from) (add-one n) ∙ ap stepped (sym is)
-process-is (Reaches element) n from now is = let none : n + 0 ≡ n = omega arith in ap (λ (m : ℕ). within element (stepped_on m from)) none ∙ ap (within element) (sym is)
-process-is (Stops why first element) n from now is = let none : n + 0 ≡ n = omega arith in ap (λ (m : ℕ). stopped_at why element (stepped_on m from)) none ∙ ap (stopped_at why element) (sym is)
+  pub ends : EndLaws
 
 -- the fetch behind an instruction begins behind its issue
 pub behind-late : (jumps : Bool) (issued : ℕ) → issued < issued + (if jumps then 2 else 1)
 behind-late true issued = omega arith
 behind-late false issued = omega arith
 
--- the counts of what happened up to the end
-module _ (counts : CountLaws) (old before : List Happening) (e : Entry) (what : What) (cycle : ℕ) where
-  abbrev x : Happening
-  x = happening e what cycle
-
-  commits-all : (n : ℕ) → commits_in old ≡ n → commits_in (old ++ before ++ x ∷ []) ≡ n + commits_in before + (if commits_by what then 1 else 0)
-  commits-all n is =
-      counts.commits (old ++ before) (x ∷ [])
-      ∙ ap₂ (λ (a b : ℕ). a + b) (counts.commits old before ∙ ap (λ (m : ℕ). m + commits_in before) is) (stop-commits (commits_by what) x)
-
-  completed-all : (n : ℕ) → completed_in old ≡ n → completed_in before ≡ 0 → completed_in (old ++ before ++ x ∷ []) ≡ n + (if completes what then 1 else 0)
-  completed-all n is none =
-      let same : n + 0 ≡ n = omega arith in
-      counts.completed (old ++ before) (x ∷ [])
-      ∙ ap₂ (λ (a b : ℕ). a + b) (counts.completed old before ∙ ap₂ (λ (a b : ℕ). a + b) is none ∙ same) (stop-commits (completes what) x)
-
-  changes-sum : (changed : Bool) → changes_in old ≡ changed → changes_in (old ++ before ++ x ∷ []) ≡ (changed || changes_in before || (commits_by what && e.footprint.changes_vectors))
-  changes-sum changed is =
-      counts.changes (old ++ before) (x ∷ [])
-      ∙ ap₂ (λ (a b : Bool). a || b) (counts.changes old before ∙ ap (λ (b : Bool). b || changes_in before) is) (or-false (commits_by what && e.footprint.changes_vectors))
-
-or-assoc : (a b c : Bool) → (a || b || c) ≡ (a || (b || c))
-or-assoc true b c = refl
-or-assoc false b c = refl
-
-module _ (laws : EndLaws) (start : Start) (until : ℕ) (from : Process) (course : Course) (history : History) (now : Process) (on : IsOnCourse start until from course history now) (one : start.machine.window ≡ 1) where
+module _ (laws : Laws) (start : Start) (until : ℕ) (from : Process) (course : Course) (history : History) (now : Process) (on : IsOnCourse start until from course history now) (one : start.machine.window ≡ 1) where
   abbrev f : Footprint
   f = next_footprint start now
 
@@ -83,30 +47,25 @@ module _ (laws : EndLaws) (start : Start) (until : ℕ) (from : Process) (course
 
   module _ (before after : List Happening) (what : What) (cycle : ℕ) (parts : happenings_of (last_retire start.cycle history) (next_entry start history now) ≡ before ++ happening (next_entry start history now) what cycle ∷ after)
       (none : list_any (ends until) before ≡ false) (ended : ends until (happening (next_entry start history now) what cycle) ≡ true) (issued : ℕ) (i : (next_entry start history now).issued ≡ At issued) where
-    none-completed : completed_in before ≡ 0
-    none-completed =
-        front-completes-none e (last_retire start.cycle history) before after (happening e what cycle)
-        (retires-somehow start history now.state f (completion laws.quiets start history now.state f course.retired on.quiet one)) parts
-
-    count : completed_in (happenings start.cycle history ++ before ++ happening e what cycle ∷ []) ≡ course.completed + (if completes what then 1 else 0)
-    count = completed-all laws.counts (happenings start.cycle history) before e what cycle course.completed on.under_way.completed none-completed
-
     ends-so : EndsAs start until from (ending_of start history e (walk_behind start history e (continued now.state).pc (fetch_behind f issued)) cycle (ended_at what) (process_behind what now)
         (course.commits + commits_in before + (if commits_by what then 1 else 0)) (course.completed + (if completes what then 1 else 0))
         (course.changed || changes_in before || (commits_by what && f.changes_vectors)))
     ends-so =
         let x : Happening = happening e what cycle in
+        let fetched : History = fetched_by start cycle from.state in
         record {
-          result = end_by start from (happenings start.cycle history ++ before ++ x ∷ []) x (fetched_by start cycle from.state);
-          is = laws.flight.ends_so start until from course.completed history now e before after x on.under_way refl parts none ended;
+          result = end_behind start course.completed (commits_in (happenings start.cycle history)) (changes_in (happenings start.cycle history)) now before x fetched;
+          is =
+          laws.ends.ends_so start until from course.completed history now e before after x on.under_way refl parts none ended
+          ∙ ap Some (laws.ends.whole start until from course.completed history now e before after x fetched on.under_way refl parts);
           ended = refl;
           last = refl;
           clock = clock-is laws.quiets start until from course history now on one before after x parts issued i laws.overs laws.flight;
-          process = ap (λ (n : ℕ). process_at what (stepped_on n from)) count ∙ process-is what course.completed from now on.under_way.process;
+          process = refl;
           residency = residency-is laws.quiets start until from course history now on one before after x parts issued i laws.overs laws.flight;
-          commits = commits-all laws.counts (happenings start.cycle history) before e what cycle course.commits on.commits_are;
-          completed = count;
-          changed_vectors = changes-sum laws.counts (happenings start.cycle history) before e what cycle course.changed on.changed_is;
+          commits = ap (λ (n : ℕ). n + commits_in (before ++ x ∷ [])) on.commits_are ∙ commits-last laws.counts e before what cycle course.commits;
+          completed = refl;
+          changed_vectors = ap (λ (b : Bool). b || changes_in (before ++ x ∷ [])) on.changed_is ∙ changes-last laws.counts e before what cycle course.changed;
           log = refl;
         }
 
@@ -119,8 +78,8 @@ module _ (laws : EndLaws) (start : Start) (until : ℕ) (from : Process) (course
         (λ j. ending_of start history e (walk_behind start history e (continued now.state).pc (fetch_behind f issued)) cycle (ended_at what) (process_behind what now) (p j) (q j) (r j))
         ends-so
 
-    changes-with : (course.changed || changes_in before || f.changes_vectors) ≡ (course.changed || f.changes_vectors)
-    changes-with = or-assoc course.changed (changes_in before) f.changes_vectors ∙ ap (λ (b : Bool). course.changed || b) (changes-before e (last_retire start.cycle history) before after (happening e what cycle) parts)
+    committed : (course.changed || changes_in before || f.changes_vectors) ≡ (course.changed || f.changes_vectors)
+    committed = changes-with laws.counts e before what cycle course.changed (last_retire start.cycle history) after parts
 
   -- ---- by what ends it
 
@@ -129,7 +88,7 @@ module _ (laws : EndLaws) (start : Start) (until : ℕ) (from : Process) (course
   ends-completing before after cycle issued i parts none late =
       let ended : ends until (happening e Completes cycle) ≡ true = le-leb until cycle late in
       ends-to before after Completes cycle parts none ended issued i (course.commits + commits_in before + 1) (course.completed + 1) (course.changed || f.changes_vectors) refl refl
-      (changes-with before after Completes cycle parts none ended issued i)
+      (committed before after Completes cycle parts none ended issued i)
 
   pub ends-reaching : (before after : List Happening) (element cycle issued : ℕ) → e.issued ≡ At issued → happenings_of (last_retire start.cycle history) e ≡ before ++ happening e (Reaches element) cycle ∷ after → list_any (ends until) before ≡ false → until ≤ cycle
       → EndsAs start until from (ending_of start history e (walk_behind start history e (continued now.state).pc (fetch_behind f issued)) cycle Slice (within element now) (course.commits + commits_in before + 1) course.completed (course.changed || f.changes_vectors))
@@ -137,7 +96,7 @@ module _ (laws : EndLaws) (start : Start) (until : ℕ) (from : Process) (course
       let ended : ends until (happening e (Reaches element) cycle) ≡ true = le-leb until cycle late in
       let same : course.completed + 0 ≡ course.completed = omega arith in
       ends-to before after (Reaches element) cycle parts none ended issued i (course.commits + commits_in before + 1) course.completed (course.changed || f.changes_vectors) refl same
-      (changes-with before after (Reaches element) cycle parts none ended issued i)
+      (committed before after (Reaches element) cycle parts none ended issued i)
 
   pub ends-stopping : (before after : List Happening) (why : Ended) (first element cycle issued : ℕ) → e.issued ≡ At issued → happenings_of (last_retire start.cycle history) e ≡ before ++ happening e (Stops why first element) cycle ∷ after → list_any (ends until) before ≡ false
       → EndsAs start until from (ending_of start history e (walk_behind start history e (continued now.state).pc (fetch_behind f issued)) cycle why (stopped_at why element now)

@@ -1,61 +1,54 @@
 -- What is counted of an instruction: whether it changes the vector state, and what its last happening comes to.
-use Rattle.std.proofs.Common.{◌≡◌, ℕ, Bool, true, false, List, [], ◌∷◌, ◌++◌, refl, sym, ap, ◌∙◌}
-use Rattle.std.specs.Prelude.{◌&&◌, ◌||◌, not, length, if◌then◌else◌}
-use Rattle.std.specs.List.{list_all}
-use Rattle.std.proofs.lemmas.Bool.{and_right, or_from, or_right, false≢true}
-use Rattle.vx_episode.specs.Commits.{Happening, happening, happenings_of}
-use Rattle.vx_episode.specs.Commits.What.{Completes}
+use Rattle.std.proofs.Common.{◌≡◌, ℕ, ◌+◌, Bool, true, false, List, [], ◌∷◌, ◌++◌, refl, sym, ap, ap₂, ◌∙◌, arith}
+use Rattle.std.specs.Prelude.{◌&&◌, ◌||◌, length, if◌then◌else◌}
+use Rattle.std.specs.List.{list_any}
+use Rattle.vx_episode.specs.Commits.{What, Happening, happening, happenings_of}
 use Rattle.vx_episode.specs.Cycles.{Cycle}
 use Rattle.vx_episode.specs.Episode.{commits_by}
 use Rattle.vx_episode.specs.History.{Entry}
-use Rattle.vx_ending.specs.Counts.{changes_in}
+use Rattle.vx_ending.specs.Counts.{commits_in, changes_in}
 use Rattle.vx_course.proofs.Cited.{CountLaws}
-use Rattle.vx_course.proofs.Lists.{any-none, all-parts}
-use Rattle.vx_course.proofs.Completing.{RetiresAt, reached, happenings-are, batches-each, happenings-each}
 
--- ---- whether it changes the vector state
-
--- only one of an instruction that changes it does
-abbrev fits : (changes : Bool) → Happening → Bool
-fits changes h = not h.entry.footprint.changes_vectors || changes
-
-itself : (changes : Bool) → (not changes || changes) ≡ true
-itself true = refl
-itself false = refl
-
-unchanged : (x : Bool) → (not x || false) ≡ true → x ≡ false
-unchanged true h = absurd (false≢true h)
-unchanged false h = refl
+-- ---- tests
 
 pub or-false : (b : Bool) → (b || false) ≡ b
 or-false true = refl
 or-false false = refl
 
-pub changes-all : (changes : Bool) (happened : List Happening) → list_all (fits changes) happened ≡ true → (changes_in happened || changes) ≡ changes
-changes-all true happened h = or_right (changes_in happened) true refl
-changes-all false happened h =
-    or_from (changes_in happened) false
-    (any-none (fits false) (λ (h : Happening). commits_by h.what && h.entry.footprint.changes_vectors) (λ h one. and_right (commits_by h.what) h.entry.footprint.changes_vectors (unchanged h.entry.footprint.changes_vectors one)) happened h)
-    refl
+or-assoc : (a b c : Bool) → (a || (b || c)) ≡ (a || b || c)
+or-assoc true b c = refl
+or-assoc false b c = refl
 
--- what happened before one of its happenings
-pub changes-before : (e : Entry) (retired : Cycle) (before after : List Happening) (h : Happening) → happenings_of retired e ≡ before ++ h ∷ after → (changes_in before || e.footprint.changes_vectors) ≡ e.footprint.changes_vectors
-changes-before e retired before after h parts =
-    changes-all e.footprint.changes_vectors before
-    (all-parts (fits e.footprint.changes_vectors) before (h ∷ after)
-    (sym (ap (list_all (fits e.footprint.changes_vectors)) parts) ∙ happenings-each (fits e.footprint.changes_vectors) e retired (λ what cycle. itself e.footprint.changes_vectors))).0
+or-covered : (a b : Bool) → ((a && b) || b) ≡ b
+or-covered true true = refl
+or-covered true false = refl
+or-covered false b = refl
 
--- all of one that retires
-pub changes-retired : CountLaws → (e : Entry) (k : ℕ) → RetiresAt e k → (retired : Cycle) → changes_in (happenings_of retired e) ≡ e.footprint.changes_vectors
-changes-retired laws e k is retired =
-    let front : List Happening = reached e k is retired in
-    ap changes_in (happenings-are e k is retired)
-    ∙ laws.changes front (happening e Completes k ∷ [])
-    ∙ ap (λ (b : Bool). changes_in front || b) (or-false e.footprint.changes_vectors)
-    ∙ changes-all e.footprint.changes_vectors front (batches-each (fits e.footprint.changes_vectors) e (λ after cycle. itself e.footprint.changes_vectors))
+one-or-none : (b : Bool) (h : Happening) → length (if b then h ∷ [] else []) ≡ (if b then 1 else 0)
+one-or-none true h = refl
+one-or-none false h = refl
 
--- ---- a stop
+-- ---- counts up to the last happening
 
-pub stop-commits : (b : Bool) (h : Happening) → length (if b then h ∷ [] else []) ≡ (if b then 1 else 0)
-stop-commits true h = refl
-stop-commits false h = refl
+module _ (counts : CountLaws) (e : Entry) (before : List Happening) (what : What) (cycle : ℕ) where
+  pub commits-last : (n : ℕ) → n + commits_in (before ++ happening e what cycle ∷ []) ≡ n + commits_in before + (if commits_by what then 1 else 0)
+  commits-last n =
+      let all : commits_in (before ++ happening e what cycle ∷ []) ≡ commits_in before + (if commits_by what then 1 else 0) =
+      counts.commits before (happening e what cycle ∷ []) ∙ ap (λ (m : ℕ). commits_in before + m) (one-or-none (commits_by what) (happening e what cycle)) in
+      let sum : n + (commits_in before + (if commits_by what then 1 else 0)) ≡ n + commits_in before + (if commits_by what then 1 else 0) = omega arith in
+      ap (λ (m : ℕ). n + m) all ∙ sum
+
+  pub changes-last : (changed : Bool) → (changed || changes_in (before ++ happening e what cycle ∷ [])) ≡ (changed || changes_in before || (commits_by what && e.footprint.changes_vectors))
+  changes-last changed =
+      ap (λ (b : Bool). changed || b)
+      (counts.changes before (happening e what cycle ∷ []) ∙ ap (λ (b : Bool). changes_in before || b) (or-false (commits_by what && e.footprint.changes_vectors)))
+      ∙ or-assoc changed (changes_in before) (commits_by what && e.footprint.changes_vectors)
+
+  -- what changed before doesn't matter where the last is committed
+  pub changes-with : (changed : Bool) (retired : Cycle) (after : List Happening) → happenings_of retired e ≡ before ++ happening e what cycle ∷ after
+      → (changed || changes_in before || e.footprint.changes_vectors) ≡ (changed || e.footprint.changes_vectors)
+  changes-with changed retired after parts =
+      sym (or-assoc changed (changes_in before) e.footprint.changes_vectors)
+      ∙ ap (λ (b : Bool). changed || b)
+      (ap (λ (b : Bool). b || e.footprint.changes_vectors) (counts.of_one e retired before (happening e what cycle ∷ after) parts)
+      ∙ or-covered (list_any (λ (h : Happening). commits_by h.what) before) e.footprint.changes_vectors)

@@ -1,5 +1,5 @@
--- What happens of an instruction: where it completes, it completes last, and nothing comes behind its retire; and where it doesn't, it
--- never retires.
+-- An instruction retires no earlier than anything that happens of it: behind a quiet history it retires at a cycle, and nothing of it
+-- comes later, or it never does.
 use Rattle.std.proofs.Common.{◌≡◌, ℕ, ◌+◌, Bool, true, false, List, [], ◌∷◌, ◌++◌, length, refl, sym, ap, ◌∙◌, arith, append-nil, length-append}
 use Rattle.std.specs.Prelude.{not, nat_le, map, filter, flat_map, reverse, Option, Some, None, if◌then◌else◌}
 use Rattle.std.specs.List.{list_all}
@@ -20,56 +20,6 @@ use Rattle.vx_ending.specs.Counts.{completed_in}
 use Rattle.vx_course.proofs.From.{is_from}
 use Rattle.vx_course.proofs.Late.{all-not_last}
 use Rattle.vx_course.proofs.Lists.{all-both, all-parts, all-more, all-each, all-flat_map, all-reverse, filter-none}
-
--- ---- what all that happens of an instruction has
-
-happen-each : (p : Happening → Bool) (e : Entry) (what : What) (c : Cycle) → ((cycle : ℕ) → p (happening e what cycle) ≡ true) → list_all p (map (happening e what) (cycles_of c)) ≡ true
-happen-each p e what (At c) each = and_from (p (happening e what c)) true (each c) refl
-happen-each p e what Never each = refl
-
-module _ (p : Happening → Bool) (e : Entry) where
-  pub batches-each : ((after cycle : ℕ) → p (happening e (Reaches after) cycle) ≡ true) → list_all p (flat_map (batch_commit e) (reverse (not_last e.batches))) ≡ true
-  batches-each each =
-      all-flat_map p (batch_commit e) (reverse (not_last e.batches))
-      (all-each (λ (b : BatchTimes). list_all p (batch_commit e b)) (λ b. happen-each p e (Reaches b.after) b.committed (each b.after)) (reverse (not_last e.batches)))
-
-  module _ (each : (why : Ended) (from element cycle : ℕ) → p (happening e (Stops why from element) cycle) ≡ true) where
-    serial-each : (stop : Option Ended) → list_all p (serial_stop e stop) ≡ true
-    serial-each None = refl
-    serial-each (Some why) = happen-each p e (Stops why e.state.v.vstart e.state.v.vstart) e.issued (each why e.state.v.vstart e.state.v.vstart)
-
-    stop-each : (before : Cycle) (b : BatchTimes) (failure : Option Failure) → list_all p (batch_stop_by before e b failure) ≡ true
-    stop-each before b None = refl
-    stop-each before b (Some f) = happen-each p e (Stops (why_stopped e f) b.from f.element) (batch_stop_cycle before e b f.element) (each (why_stopped e f) b.from f.element)
-
-    stops-each : (before : Cycle) → list_all p (batch_stop before e) ≡ true
-    stops-each before =
-        all-flat_map p (λ (b : BatchTimes). batch_stop_by before e b b.failure) (filter stops e.batches)
-        (all-each (λ (b : BatchTimes). list_all p (batch_stop_by before e b b.failure)) (λ b. stop-each before b b.failure) (filter stops e.batches))
-
-pub happenings-each : (p : Happening → Bool) (e : Entry) (before : Cycle) → ((what : What) (cycle : ℕ) → p (happening e what cycle) ≡ true) → list_all p (happenings_of before e) ≡ true
-happenings-each p e before each =
-    all-both p (commits_of e ++ serial_stop e e.footprint.stop) (batch_stop before e)
-    (all-both p (commits_of e) (serial_stop e e.footprint.stop)
-    (all-both p (flat_map (batch_commit e) (reverse (not_last e.batches))) (map (happening e Completes) (cycles_of e.retired)) (batches-each p e (λ after. each (Reaches after))) (happen-each p e Completes e.retired (each Completes)))
-    (serial-each p e (λ why from element. each (Stops why from element)) e.footprint.stop))
-    (stops-each p e (λ why from element. each (Stops why from element)) before)
-
--- ---- an instruction that never retires completes nothing
-
-abbrev is_on : Happening → Bool
-is_on = λ (h : Happening). not (completes h.what)
-
-none-completed : (happened : List Happening) → list_all is_on happened ≡ true → completed_in happened ≡ 0
-none-completed happened h = ap length (filter-none is_on (λ (h : Happening). completes h.what) (λ h one. not-true (completes h.what) one) happened h)
-
-never-completes : (e : Entry) (before : Cycle) → e.retired ≡ Never → list_all is_on (happenings_of before e) ≡ true
-never-completes e before never =
-    all-both is_on (commits_of e ++ serial_stop e e.footprint.stop) (batch_stop before e)
-    (all-both is_on (commits_of e) (serial_stop e e.footprint.stop)
-    (all-both is_on (flat_map (batch_commit e) (reverse (not_last e.batches))) (map (happening e Completes) (cycles_of e.retired)) (batches-each is_on e (λ after cycle. refl)) (ap (λ (c : Cycle). list_all is_on (map (happening e Completes) (cycles_of c))) never))
-    (serial-each is_on e (λ why from element cycle. refl) e.footprint.stop))
-    (stops-each is_on e (λ why from element cycle. refl) before)
 
 -- ---- one that retires at a cycle
 
@@ -109,29 +59,12 @@ module _ (e : Entry) (k : ℕ) (is : RetiresAt e k) (before : Cycle) where
       (all-not_last (λ (b : BatchTimes). is_by k b.committed) e.batches is.committed))))
       (and_from (nat_le k k) true (le-leb k k (omega arith)) refl)
 
--- nothing completes before the last of some things of which none but that completes
-front-none : (front before after : List Happening) (x h : Happening) → list_all is_on front ≡ true → before ++ h ∷ after ≡ front ++ x ∷ [] → completed_in before ≡ 0
-front-none front [] after x h all e = refl
-front-none [] (y ∷ before) after x h all e = absurd (omega (arith, ap length e, length-append before (h ∷ after)))
-front-none (z ∷ front) (y ∷ before) after x h all e =
-    let parts = and_parts (is_on z) (list_all is_on front) all in
-    let heads : y ≡ z = cc in
-    let tails : before ++ h ∷ after ≡ front ++ x ∷ [] = cc in
-    let here : completes y.what ≡ false = ap (λ (h : Happening). completes h.what) heads ∙ not-true (completes z.what) parts.0 in
-    rw here (front-none front before after x h parts.1 tails)
-
--- ---- both
+-- ---- any
 
 -- an instruction retires at a cycle, or never
 pub data Retires (e : Entry) : Type 0 where
   retires : (k : ℕ) → RetiresAt e k → Retires e
   never : e.retired ≡ Never → Retires e
-
-pub front-completes-none : (e : Entry) (retired : Cycle) (before after : List Happening) (h : Happening) → Retires e → happenings_of retired e ≡ before ++ h ∷ after → completed_in before ≡ 0
-front-completes-none e retired before after h (retires k is) parts =
-    front-none (reached e k is retired) before after (happening e Completes k) h (batches-each is_on e (λ after cycle. refl)) (sym parts ∙ happenings-are e k is retired)
-front-completes-none e retired before after h (never is) parts =
-    none-completed before (all-parts is_on before (h ∷ after) (sym (ap (list_all is_on) parts) ∙ never-completes e retired is)).0
 
 -- it retires no earlier than anything that happens of it
 pub retires-from : (e : Entry) (retired : Cycle) (before after : List Happening) (h : Happening) → Retires e → happenings_of retired e ≡ before ++ h ∷ after → is_from h.cycle e.retired ≡ true

@@ -15,11 +15,10 @@ use Rattle.vx_episode.specs.History.{History, Entry, BatchTimes, last_retire}
 use Rattle.vx_episode.specs.Instructions.{beat_times, generation_cycle}
 use Rattle.vx_episode.specs.Organisation.{Start}
 use Rattle.vx_quiet.specs.Quiet.{IsQuiet}
-use Rattle.vx_ending.specs.Counts.{commits_in}
+use Rattle.vx_ending.specs.Counts.{commits_in, changes_in}
 use Rattle.vx_ending.specs.UnderWay.{IsUnderWay}
 use Rattle.vx_course.specs.Course.{Course, IsOnCourse, begun_course, course_behind}
-use Rattle.vx_course.proofs.Changing.{changes-retired}
-use Rattle.vx_course.proofs.Completing.{Completion, completes-at}
+use Rattle.vx_course.proofs.Completing.{Completion}
 use Rattle.vx_course.proofs.From.{is_from}
 use Rattle.vx_course.proofs.Late.{complete-from}
 use Rattle.vx_course.proofs.Cited.{QuietLaws, CountLaws}
@@ -56,9 +55,10 @@ soon-behind false issued completed few = omega arith
 -- of an instruction that completes and of which nothing ends the episode, once the episode is under way behind it
 module _ (quiets : QuietLaws) (counts : CountLaws) (start : Start) (until : ℕ) (from : Process) (course : Course) (history : History) (now : Process) (f : Footprint) (issued completed : ℕ) where
   course-more : IsOnCourse start until from course history now → start.machine.window ≡ 1 → (timed start history now.state f).issued ≡ At issued → (timed start history now.state f).completed ≡ At completed
+      → changes_in (happenings_of (last_retire start.cycle history) (timed start history now.state f)) ≡ f.changes_vectors
       → IsUnderWay start until from (course.completed + 1) (timed start history now.state f ∷ history) (stepped now)
       → IsOnCourse start until from (course_behind course f issued completed (commits_in (happenings_of (last_retire start.cycle history) (timed start history now.state f)))) (timed start history now.state f ∷ history) (stepped now)
-  course-more on one i c way =
+  course-more on one i c changes way =
       let e : Entry = timed start history now.state f in
       let happened : List Happening = happenings_of (last_retire start.cycle history) e in
       let known : Completion start history now.state f = completion quiets start history now.state f course.retired on.quiet one in
@@ -70,7 +70,7 @@ module _ (quiets : QuietLaws) (counts : CountLaws) (start : Start) (until : ℕ)
         commits_are = counts.commits (happenings start.cycle history) happened ∙ ap (λ (n : ℕ). n + commits_in happened) on.commits_are;
         changed_is =
             counts.changes (happenings start.cycle history) happened
-            ∙ ap₂ (λ (a b : Bool). a || b) on.changed_is (changes-retired counts e (completed + 1) (completes-at start history now.state f known completed c) (last_retire start.cycle history));
+            ∙ ap₂ (λ (a b : Bool). a || b) on.changed_is changes;
       }
 
 -- ---- in terms of an instruction and its footprint
@@ -83,7 +83,7 @@ next-of P start history s e f e-is f-is h = subst (λ (x : Entry). P x f) (sym e
 module _ (quiets : QuietLaws) (counts : CountLaws) (start : Start) (until : ℕ) (from : Process) (course : Course) (history : History) (now : Process) (issued completed : ℕ) where
   abbrev GoesOn : Entry → Footprint → Type 0
   GoesOn e f =
-      e.issued ≡ At issued → e.completed ≡ At completed → IsUnderWay start until from (course.completed + 1) (e ∷ history) (stepped now)
+      e.issued ≡ At issued → e.completed ≡ At completed → changes_in (happenings_of (last_retire start.cycle history) e) ≡ e.footprint.changes_vectors → IsUnderWay start until from (course.completed + 1) (e ∷ history) (stepped now)
       → IsOnCourse start until from (course_behind course f issued completed (commits_in (happenings_of (last_retire start.cycle history) e))) (e ∷ history) (stepped now)
 
   pub course-next : (e : Entry) (f : Footprint) → IsOnCourse start until from course history now → start.machine.window ≡ 1 → e ≡ entry_of start history now.state → f ≡ footprint start.machine start.has_vectors start.residency now.state → GoesOn e f

@@ -20,7 +20,9 @@ ghost use Rattle.vx_quiet.specs.Quiet.{IsQuiet, completed_at, ended_by};
 ghost use Rattle.vx_ending.specs.Counts.{changes_in, commits_in};
 ghost use Rattle.vx_course.specs.Course.{Course, IsOnCourse, begun_course, course_behind, fetch_behind, EndsAs, ending_of, walk_behind};
 
-use vx_ending::{episodes_end, episodes_go_on, happenings_are_counted, instructions_in_flight};
+use vx_ending::{
+    ends_have_parts, episodes_end, episodes_go_on, happenings_are_counted, instructions_in_flight, retiring_instructions_commit,
+};
 use vx_quiet::{
     a_quiet_history_goes_on, a_quiet_history_is_over, instructions_issue_behind_a_quiet_history,
     instructions_without_accesses_complete, instructions_without_accesses_stop,
@@ -28,6 +30,7 @@ use vx_quiet::{
 
 /// An instruction that isn't issued by a cycle has done nothing by then: none of its walks for data has ended, none of its accesses
 /// is queued, and nothing of it is committed. Nor has a fetch walked that begins later.
+#[inline(always)]
 pub fn instructions_wait_for_their_issue()
     ensures walks { (start : Start) (history : History) (s : Flat) (f : Footprint) (last : ℕ) → is_by last (timed start history s f).issued ≡ false
         → ended_by last (walks_of_batches (timed start history s f).batches) ≡ [] }
@@ -41,6 +44,7 @@ pub fn instructions_wait_for_their_issue()
 
 /// What happens of an instruction comes no earlier than its issue. Where one instruction is in flight at a time, the instruction behind
 /// it isn't issued by then.
+#[inline(always)]
 pub fn instructions_follow_one_another()
     ensures issued { (start : Start) (history : History) (s : Flat) (f : Footprint) (retired : Cycle) (before after : List Happening) (h : Happening) → happenings_of retired (timed start history s f) ≡ before ++ h ∷ after
         → is_by h.cycle (timed start history s f).issued ≡ true }
@@ -54,6 +58,7 @@ pub fn instructions_follow_one_another()
 
 /// Where one instruction is in flight at a time, the course of an episode in numbers: where it begins, and how it goes on with an
 /// instruction that completes and of which nothing ends the episode; in short, with one without accesses.
+#[inline(always)]
 pub fn courses_go_on()
     ensures begins { (start : Start) (until : ℕ) (from : Process) → from.over ≡ None → IsOnCourse start until from (begun_course start) [] from }
     ensures next { (start : Start) (until : ℕ) (from : Process) (course : Course) (history : History) (now : Process) (e : Entry) (f : Footprint) (t : Flat) (issued completed : ℕ)
@@ -75,10 +80,12 @@ pub fn courses_go_on()
     instructions_without_accesses_stop();
     episodes_go_on();
     happenings_are_counted();
+    retiring_instructions_commit();
 }
 
 /// What an episode comes to that ends with the next instruction, where one instruction is in flight at a time: by the first thing of
 /// it that ends the episode, which is that it completes, reaches an element or stops at one.
+#[inline(always)]
 pub fn courses_end()
     ensures completes { (start : Start) (until : ℕ) (from : Process) (course : Course) (history : History) (now : Process) (e : Entry) (f : Footprint) (before after : List Happening) (issued cycle : ℕ)
         → IsOnCourse start until from course history now → start.machine.window ≡ 1
@@ -118,6 +125,7 @@ pub fn courses_end()
     a_quiet_history_is_over();
     instructions_issue_behind_a_quiet_history();
     instructions_without_accesses_stop();
+    ends_have_parts();
     episodes_end();
     instructions_in_flight();
     happenings_are_counted();
@@ -125,6 +133,7 @@ pub fn courses_end()
 
 /// The instructions fetched by the end of an episode, where one instruction is in flight at a time: up to the one at the end, and the one
 /// behind it where its fetch began by then; behind a stop at the issue none did.
+#[inline(always)]
 pub fn courses_fetch()
     ensures any { (start : Start) (until : ℕ) (from : Process) (course : Course) (history : History) (now : Process) (e : Entry) (f : Footprint) (before after : List Happening) (h : Happening) (issued : ℕ)
         → IsOnCourse start until from course history now → start.machine.window ≡ 1
@@ -140,6 +149,5 @@ pub fn courses_fetch()
     a_quiet_history_goes_on();
     instructions_issue_behind_a_quiet_history();
     instructions_without_accesses_stop();
-    episodes_end();
     instructions_in_flight();
 }

@@ -12,16 +12,17 @@ use Rattle.vx_episode.specs.History.{Entry, last_retire, fetch_walks, data_walks
 use Rattle.vx_episode.specs.declared.ended.Ended.TheVariants.{Slice}
 use Rattle.vx_ending.specs.Counts.{commits_in, changes_in}
 use Rattle.vx_course.specs.Course.{EndsAs, ending_of, walk_behind, fetch_behind}
-use Rattle.vx_course.proofs.AtEnd.{EndLaws, ends-completing, ends-reaching, ends-stopping, ends-at-issue}
+use Rattle.vx_course.proofs.AtEnd.{Laws, ends-completing, ends-reaching, ends-stopping, ends-at-issue}
 use Rattle.vx_course.proofs.GoingOn.{next-of}
 use Rattle.vx_course.proofs.laws.courses_end.Goals as goal
 
-laws : goal.After-happenings_are_counted → EndLaws
+laws : goal.After-happenings_are_counted → Laws
 laws c = record {
   quiets = record { goes_on = c.a_quiet_history_goes_on.ensures.goes_on; never = c.instructions_without_accesses_stop.ensures.completed };
   overs = record { residency = c.a_quiet_history_is_over.ensures.residency; clock = c.a_quiet_history_is_over.ensures.clock };
-  counts = record { commits = c.happenings_are_counted.ensures.commits; completed = c.happenings_are_counted.ensures.completed; changes = c.happenings_are_counted.ensures.changes };
-  flight = record { ends_so = c.episodes_end.ensures; one = c.instructions_in_flight.ensures.one; two = c.instructions_in_flight.ensures.two };
+  counts = record { commits = c.happenings_are_counted.ensures.commits; changes = c.happenings_are_counted.ensures.changes; of_one = c.happenings_are_counted.ensures.of_one };
+  flight = record { one = c.instructions_in_flight.ensures.one; two = c.instructions_in_flight.ensures.two };
+  ends = record { ends_so = c.episodes_end.ensures; whole = c.ends_have_parts.ensures.whole };
 }
 
 pub returns-clause-completes : goal.returns-clause-completes

@@ -19,7 +19,7 @@ quiets : goal.After-instructions_in_flight → QuietLaws
 quiets c = record { goes_on = c.a_quiet_history_goes_on.ensures.goes_on; never = c.instructions_without_accesses_stop.ensures.completed }
 
 flight : goal.After-instructions_in_flight → FlightLaws
-flight c = record { ends_so = c.episodes_end.ensures; one = c.instructions_in_flight.ensures.one; two = c.instructions_in_flight.ensures.two }
+flight c = record { one = c.instructions_in_flight.ensures.one; two = c.instructions_in_flight.ensures.two }
 
 pub returns-clause-any : goal.returns-clause-any
 returns-clause-any c start until from course history now e f before after h issued on one e-is f-is i parts =

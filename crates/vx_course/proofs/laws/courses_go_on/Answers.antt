@@ -13,11 +13,11 @@ use Rattle.vx_course.proofs.GoingOn.{course-begins, course-next, none-ends}
 use Rattle.vx_course.proofs.Cited.{QuietLaws, CountLaws}
 use Rattle.vx_course.proofs.laws.courses_go_on.Goals as goal
 
-quiets : goal.After-happenings_are_counted → QuietLaws
+quiets : goal.After-retiring_instructions_commit → QuietLaws
 quiets c = record { goes_on = c.a_quiet_history_goes_on.ensures.goes_on; never = c.instructions_without_accesses_stop.ensures.completed }
 
-counts : goal.After-happenings_are_counted → CountLaws
-counts c = record { commits = c.happenings_are_counted.ensures.commits; completed = c.happenings_are_counted.ensures.completed; changes = c.happenings_are_counted.ensures.changes }
+counts : goal.After-retiring_instructions_commit → CountLaws
+counts c = record { commits = c.happenings_are_counted.ensures.commits; changes = c.happenings_are_counted.ensures.changes; of_one = c.happenings_are_counted.ensures.of_one }
 
 pub returns-clause-begins : goal.returns-clause-begins
 returns-clause-begins c start until from running = course-begins start until from (c.episodes_go_on.ensures.begins start until from running) (c.a_quiet_history_goes_on.ensures.begins start)
@@ -28,6 +28,7 @@ returns-clause-next c start until from course history now e f t issued completed
     ap (λ (x : Entry). x.retired) e-is
     ∙ c.a_quiet_history_goes_on.ensures.retires start history now.state (footprint start.machine start.has_vectors start.residency now.state) course.retired completed on.quiet one (ap (λ (x : Entry). x.completed) (sym e-is) ∙ done) in
     course-next (quiets c) (counts c) start until from course history now issued completed e f on one e-is f-is i done
+    (c.retiring_instructions_commit.ensures.changes start history now.state e (last_retire start.cycle history) (completed + 1) e-is retires)
     (c.episodes_go_on.ensures.next start until from course.completed history now e t (completed + 1) on.under_way e-is goes retires none)
 
 pub returns-clause-without_accesses : goal.returns-clause-without_accesses
