@@ -1,15 +1,15 @@
 -- What an episode comes to that ends with an instruction.
-use Rattle.std.proofs.Common.{◌≡◌, ℕ, ◌+◌, ◌≤◌, ◌<◌, max, Bool, true, false, List, [], ◌∷◌, ◌++◌, refl, sym, ap, ap₂, ◌∙◌, subst, arith, add-one}
+use Rattle.std.proofs.Common.{◌≡◌, ℕ, ◌+◌, ◌≤◌, ◌<◌, max, Bool, true, false, List, [], ◌∷◌, ◌++◌, refl, ap, ◌∙◌, subst, arith}
 use Rattle.std.specs.Prelude.{Some, ◌||◌, ◌&&◌, nat_lt, option_to_list, if◌then◌else◌}
 use Rattle.std.specs.List.{list_any}
 use Rattle.std.proofs.lemmas.Bool.{le-leb, le-ltb}
 use Rattle.vx_flat.specs.Continued.{continued}
-use Rattle.vx_flat.specs.Process.{Process, stepped, stepped_on}
+use Rattle.vx_flat.specs.Process.{Process, stepped}
 use Rattle.vx_episode.specs.Batches.{all_batches, retired_batches}
 use Rattle.vx_episode.specs.Commits.{What, Happening, happening, ends, happenings, happenings_of}
 use Rattle.vx_episode.specs.Commits.What.{Completes, Reaches, Stops}
 use Rattle.vx_episode.specs.Cycles.Cycle.{At}
-use Rattle.vx_episode.specs.Episode.{end_by, fetched_by, commits_by, completes, ended_at, within, stopped_at, process_at, trap_cycles}
+use Rattle.vx_episode.specs.Episode.{fetched_by, commits_by, completes, ended_at, within, stopped_at, trap_cycles}
 use Rattle.vx_episode.specs.Footprint.{Batch, Footprint}
 use Rattle.vx_episode.specs.History.{History, Entry, BatchTimes, last_retire, accesses_of, walks_of_batches, data_walks, fetch_walks, after_walks}
 use Rattle.vx_episode.specs.Organisation.{Start}
@@ -56,8 +56,8 @@ module _ (laws : Laws) (start : Start) (until : ℕ) (from : Process) (course : 
         record {
           result = end_behind start course.completed (commits_in (happenings start.cycle history)) (changes_in (happenings start.cycle history)) now before x fetched;
           is =
-          laws.ends.ends_so start until from course.completed history now e before after x on.under_way refl parts none ended
-          ∙ ap Some (laws.ends.whole start until from course.completed history now e before after x fetched on.under_way refl parts);
+              laws.ends.ends_so start until from course.completed history now e before after x on.under_way refl parts none ended
+              ∙ ap Some (laws.ends.whole start until from course.completed history now e before after x fetched on.under_way refl parts);
           ended = refl;
           last = refl;
           clock = clock-is laws.quiets start until from course history now on one before after x parts issued i laws.overs laws.flight;

@@ -1,5 +1,5 @@
 -- What is counted of an instruction: whether it changes the vector state, and what its last happening comes to.
-use Rattle.std.proofs.Common.{◌≡◌, ℕ, ◌+◌, Bool, true, false, List, [], ◌∷◌, ◌++◌, refl, sym, ap, ap₂, ◌∙◌, arith}
+use Rattle.std.proofs.Common.{◌≡◌, ℕ, ◌+◌, Bool, true, false, List, [], ◌∷◌, ◌++◌, refl, sym, ap, ◌∙◌, arith}
 use Rattle.std.specs.Prelude.{◌&&◌, ◌||◌, length, if◌then◌else◌}
 use Rattle.std.specs.List.{list_any}
 use Rattle.vx_episode.specs.Commits.{What, Happening, happening, happenings_of}

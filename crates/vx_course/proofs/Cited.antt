@@ -1,6 +1,6 @@
 -- The laws of quiet histories and of episodes that are cited here.
 use Rattle.std.proofs.Common.{◌≡◌, ℕ, ◌+◌, ◌≤◌, true, false, List, [], ◌∷◌, ◌++◌}
-use Rattle.std.specs.Prelude.{◌||◌, ◌&&◌, Some, if◌then◌else◌}
+use Rattle.std.specs.Prelude.{◌||◌, ◌&&◌, Some}
 use Rattle.std.specs.List.{list_any}
 use Rattle.vx_flat.specs.Continued.{continued}
 use Rattle.vx_flat.specs.Process.{Process}

@@ -1,25 +1,23 @@
 -- An instruction retires no earlier than anything that happens of it: behind a quiet history it retires at a cycle, and nothing of it
 -- comes later, or it never does.
-use Rattle.std.proofs.Common.{◌≡◌, ℕ, ◌+◌, Bool, true, false, List, [], ◌∷◌, ◌++◌, length, refl, sym, ap, ◌∙◌, arith, append-nil, length-append}
-use Rattle.std.specs.Prelude.{not, nat_le, map, filter, flat_map, reverse, Option, Some, None, if◌then◌else◌}
+use Rattle.std.proofs.Common.{◌≡◌, ℕ, ◌+◌, Bool, true, false, List, [], ◌∷◌, ◌++◌, refl, sym, ap, ◌∙◌, arith, append-nil}
+use Rattle.std.specs.Prelude.{nat_le, map, filter, flat_map, reverse, Option, Some, None, if◌then◌else◌}
 use Rattle.std.specs.List.{list_all}
-use Rattle.std.proofs.lemmas.Bool.{and_parts, and_from, not-true, false≢true, le-leb}
+use Rattle.std.proofs.lemmas.Bool.{and_parts, and_from, false≢true, le-leb}
 use Rattle.vx_flat.specs.State.{Flat}
-use Rattle.vx_episode.specs.Commits.{What, Happening, happening, timed, batch_commit, not_last, commits_of, serial_stop, why_stopped, batch_stop_cycle, batch_stop_by, batch_stop, happenings_of}
-use Rattle.vx_episode.specs.Commits.What.{Completes, Reaches, Stops}
+use Rattle.vx_episode.specs.Commits.{What, Happening, happening, timed, batch_commit, not_last, serial_stop, batch_stop_by, happenings_of}
+use Rattle.vx_episode.specs.Commits.What.{Completes, Reaches}
 use Rattle.vx_episode.specs.Cycles.{Cycle, behind, later_of, is_by, cycles_of}
 use Rattle.vx_episode.specs.Cycles.Cycle.{At, Never}
-use Rattle.vx_episode.specs.Episode.{completes}
 use Rattle.vx_episode.specs.Footprint.{Footprint}
-use Rattle.vx_episode.specs.History.{History, Entry, BatchTimes, Failure, last_retire, stops, passed, batches_of}
+use Rattle.vx_episode.specs.History.{History, Entry, BatchTimes, last_retire, stops, passed, batches_of}
 use Rattle.vx_episode.specs.Instructions.{retire_cycle}
 use Rattle.vx_episode.specs.Organisation.{Start}
 use Rattle.vx_episode.specs.declared.ended.Ended.{Ended}
 use Rattle.vx_quiet.specs.Quiet.{IsQuiet}
-use Rattle.vx_ending.specs.Counts.{completed_in}
 use Rattle.vx_course.proofs.From.{is_from}
 use Rattle.vx_course.proofs.Late.{all-not_last}
-use Rattle.vx_course.proofs.Lists.{all-both, all-parts, all-more, all-each, all-flat_map, all-reverse, filter-none}
+use Rattle.vx_course.proofs.Lists.{all-both, all-parts, all-more, all-flat_map, all-reverse, filter-none}
 
 -- ---- one that retires at a cycle
 

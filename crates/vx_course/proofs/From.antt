@@ -139,14 +139,11 @@ waiting-from n a (Good known word) Never h = refl
 waiting-from n a (Fails known is_away) c h = refl
 waiting-from n a Unknown c h = refl
 
-placed-if : {A : Type 0} (p : A → Bool) (b : Bool) (xs ys : List A) → list_all p xs ≡ true → list_all p ys ≡ true → list_all p (if b then xs else ys) ≡ true
-placed-if p b xs ys h k = all-if p b xs ys h k
-
 all-placed : {A : Type 0} (p : A → Bool) (number : A → ℕ) (a : A) (items : List A) → p a ≡ true → list_all p items ≡ true → list_all p (placed number a items) ≡ true
 all-placed p number a [] h k = and_from (p a) true h refl
 all-placed p number a (b ∷ items) h k =
     let parts = and_parts (p b) (list_all p items) k in
-    placed-if p (nat_le (number a) (number b)) (a ∷ b ∷ items) (b ∷ placed number a items)
+    all-if p (nat_le (number a) (number b)) (a ∷ b ∷ items) (b ∷ placed number a items)
     (and_from (p a) (list_all p (b ∷ items)) h k)
     (and_from (p b) (list_all p (placed number a items)) parts.0 (all-placed p number a items h parts.1))
 

@@ -21,7 +21,8 @@ ghost use Rattle.vx_ending.specs.Counts.{changes_in, commits_in};
 ghost use Rattle.vx_course.specs.Course.{Course, IsOnCourse, begun_course, course_behind, fetch_behind, EndsAs, ending_of, walk_behind};
 
 use vx_ending::{
-    ends_have_parts, episodes_end, episodes_go_on, happenings_are_counted, instructions_in_flight, retiring_instructions_commit,
+    ends_have_parts, episodes_end, episodes_go_on, happenings_are_counted, instructions_in_flight,
+    retiring_instructions_commit,
 };
 use vx_quiet::{
     a_quiet_history_goes_on, a_quiet_history_is_over, instructions_issue_behind_a_quiet_history,
