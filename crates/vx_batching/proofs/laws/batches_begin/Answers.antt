@@ -1,0 +1,1 @@
+use Rattle.vx_batching.proofs.Judging
