@@ -26,11 +26,10 @@ abbrev pub last_commit : (retired : ℕ) → List BatchTimes → Cycle
 last_commit retired [] = At (retired + 1)
 last_commit retired (b ∷ own) = b.committed
 
--- that of the batch before it, where there is one
-abbrev pub commit_before : List BatchTimes → Cycle
-commit_before [] = At 0
-commit_before (b ∷ []) = At 0
-commit_before (b ∷ c ∷ own) = c.committed
+-- that of the batches before the last
+abbrev pub commit_before : (retired : ℕ) → List BatchTimes → Cycle
+commit_before retired [] = At 0
+commit_before retired (b ∷ own) = last_commit retired own
 
 -- the batches before the last
 abbrev pub not_newest : List BatchTimes → List BatchTimes
@@ -54,7 +53,7 @@ pub record IsReached (start : Start) (history : History) (retired issued : ℕ) 
   -- what the four cycles are
   pub looked_is : last_looked_up issued own ≡ At looked
   pub committed_is : last_commit retired own ≡ At committed
-  pub before_is : commit_before own ≡ At before
+  pub before_is : commit_before retired own ≡ At before
   pub done_is : all_done (accesses_of own) ≡ done
   -- what they bound
   pub commit_is : commit_cycle start history (map (λ (b : BatchTimes). b.looked_up) own) (batch_done own) ≡ At committed

@@ -1,1 +1,2 @@
-use Rattle.vx_batching.proofs.Judging
+use Rattle.vx_batching.proofs.Started
+use Rattle.vx_batching.proofs.Passing
