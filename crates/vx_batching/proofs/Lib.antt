@@ -1,4 +1,5 @@
 pub mod Judging
+pub mod Later
 pub mod Lists
 pub mod Passing
 pub mod Started

@@ -31,7 +31,7 @@ commit-more c looked dones done (At k) Never e = absurd (cc)
 commit-more c looked dones done Never earlier e = absurd (cc)
 
 -- the end of the look-ups of some batches
-abbrev ends_of : List BatchTimes → List Cycle
+abbrev pub ends_of : List BatchTimes → List Cycle
 ends_of own = map (λ (b : BatchTimes). b.looked_up) own
 
 commit-at : (start : Start) (history : History) (own : List BatchTimes) (b : BatchTimes) (looked committed : ℕ) → b.looked_up ≡ At looked → b.missing ≡ [] → missing_of own ≡ [] → commit_cycle start history (ends_of own) (batch_done own) ≡ At committed

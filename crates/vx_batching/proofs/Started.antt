@@ -31,13 +31,13 @@ missed-by : (started looked : ℕ) (js : List Judged) (trimmed : Bool) (failing 
 missed-by started looked js trimmed failing h e off none = failure-missing started looked js failing h e (ap (λ (t : Bool). never_queued t js) (sym off) ∙ none)
 
 module _ (start : Start) (history : History) (before : List BatchTimes) (f : Footprint) (b : Batch) (started : ℕ) where
-  abbrev its_walks : List Walk
+  abbrev pub its_walks : List Walk
   its_walks = walks_of start history before f.want started [] b.accesses
 
-  abbrev its_judged : List Judged
+  abbrev pub its_judged : List Judged
   its_judged = judged (fate_of start history before f.want started its_walks) [] b.accesses
 
-  abbrev its_end : ℕ
+  abbrev pub its_end : ℕ
   its_end = walks_end started its_walks
 
   between : AreBetween started its_walks
@@ -46,7 +46,7 @@ module _ (start : Start) (history : History) (before : List BatchTimes) (f : Foo
   all-known : list_all (is_judged started its_end) its_judged ≡ true
   all-known = all-judged started its_end (fate_of start history before f.want started its_walks) (fates-known start history before f.want started its_walks between) b.accesses [] refl
 
-  is-started : IsStarted started its_end (batch_started start history before f b (At started))
+  pub is-started : IsStarted started its_end (batch_started start history before f b (At started))
   is-started = record {
     from = between.from;
     walks = between.each;

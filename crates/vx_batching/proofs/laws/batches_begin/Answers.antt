@@ -1,2 +1,1 @@
-use Rattle.vx_batching.proofs.Started
-use Rattle.vx_batching.proofs.Passing
+use Rattle.vx_batching.proofs.Later
