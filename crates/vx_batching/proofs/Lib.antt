@@ -1,8 +1,10 @@
+pub mod Happening
 pub mod Judging
 pub mod Later
 pub mod Lists
 pub mod Passing
 pub mod Started
 pub mod Starting
+pub mod Stuck
 pub mod Times
 pub mod Walking

@@ -1,1 +1,1 @@
-use Rattle.vx_batching.proofs.Later
+use Rattle.vx_batching.proofs.Happening
