@@ -1,3 +1,4 @@
+pub mod Ending
 pub mod Happening
 pub mod Judging
 pub mod Later
@@ -5,6 +6,7 @@ pub mod Lists
 pub mod Passing
 pub mod Started
 pub mod Starting
+pub mod Stopping
 pub mod Stuck
 pub mod Times
 pub mod Walking

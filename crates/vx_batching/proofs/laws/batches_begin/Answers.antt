@@ -1,1 +1,1 @@
-use Rattle.vx_batching.proofs.Happening
+use Rattle.vx_batching.proofs.Stopping
