@@ -22,7 +22,7 @@ use Rattle.vx_batching.proofs.Times.{latest-done}
 -- ---- commits of batches
 
 module _ (e : Entry) where
-  reached-one : (b : BatchTimes) (own : List BatchTimes) → reached e (b ∷ own) ≡ reached e own ++ batch_commit e b
+  pub reached-one : (b : BatchTimes) (own : List BatchTimes) → reached e (b ∷ own) ≡ reached e own ++ batch_commit e b
   reached-one b own =
       ap (flat_map (batch_commit e)) (reverse-more b own)
       ∙ flat_map-append (batch_commit e) (reverse own) (b ∷ [])

@@ -35,7 +35,7 @@ one-more p batches own b h more = record {
   each = all-both p more.later (b ∷ []) more.each (and_from (p b) true h refl);
 }
 
-more-if : (p : BatchTimes → Bool) (own : List BatchTimes) (trimmed : Bool) (xs ys : List BatchTimes) → IsMore p xs own → IsMore p ys own → IsMore p (elim trimmed as (λ _. List BatchTimes) [ true ↦ xs | false ↦ ys ]) own
+pub more-if : (p : BatchTimes → Bool) (own : List BatchTimes) (trimmed : Bool) (xs ys : List BatchTimes) → IsMore p xs own → IsMore p ys own → IsMore p (elim trimmed as (λ _. List BatchTimes) [ true ↦ xs | false ↦ ys ]) own
 more-if p own true xs ys h k = h
 more-if p own false xs ys h k = k
 

@@ -1,1 +1,2 @@
-use Rattle.vx_batching.proofs.Stopping
+use Rattle.vx_batching.proofs.Flight
+use Rattle.vx_batching.proofs.Slicing
