@@ -115,19 +115,23 @@ module _ (start : Start) (history : History) (s : Flat) (r t : ℕ) (f : Footpri
       (stops-only start history stuck.later own now stuck.each stop-on so.none_stops)
       fails (times-from start history (own ++ batches_of history) (At t) f b) is stuck-accesses
 
-  -- ---- of batches of one element
+-- ---- of batches of one element
 
-  pub stopped-plainly : list_all (λ (a : AccessTimes). nat_lt a.access.element failing.element) (accesses_of own) ≡ true → list_all (λ (a : AccessTimes). not (nat_lt a.access.element failing.element)) its_times.accesses ≡ true
-      → stopped_behind r next failing.element (its_times.accesses ++ accesses_of own) ≡ max next (max committed done)
-  stopped-plainly below above =
-      let is_below : AccessTimes → Bool = λ (a : AccessTimes). nat_lt a.access.element failing.element in
-      let kept : filter is_below (its_times.accesses ++ accesses_of own) ≡ accesses_of own =
-      filter-append is_below its_times.accesses (accesses_of own)
-      ∙ (λ i. filter-none is_below (λ (a : AccessTimes). not (is_below a)) (λ a out inside. sym (ap not inside) ∙ out) its_times.accesses above i ++ filter-all is_below (accesses_of own) below i) in
-      let from = begun.from in
-      let least = so.committed_from in
-      let few = so.committed_by in
-      let most = so.done_by in
-      ap (λ (accesses : List AccessTimes). max next (max (r + 1) (all_done accesses))) kept
-      ∙ ap (λ (n : ℕ). max next (max (r + 1) n)) so.done_is
-      ∙ omega arith
+pub stopped-plainly : (start : Start) (history : History) (r t : ℕ) (f : Footprint) (own : List BatchTimes) (b : Batch) (bs : List Batch) (looked committed before done next : ℕ) → IsReached start history r t f own (b ∷ bs) looked committed before done → (element : ℕ)
+    → (next_times start history t f own b).looked_up ≡ At next → list_all (λ (a : AccessTimes). nat_lt a.access.element element) (accesses_of own) ≡ true
+    → list_all (λ (a : AccessTimes). not (nat_lt a.access.element element)) (next_times start history t f own b).accesses ≡ true
+    → stopped_behind r next element ((next_times start history t f own b).accesses ++ accesses_of own) ≡ max next (max committed done)
+stopped-plainly start history r t f own b bs looked committed before done next so element is below above =
+    let times : BatchTimes = next_times start history t f own b in
+    let is_below : AccessTimes → Bool = λ (a : AccessTimes). nat_lt a.access.element element in
+    let kept : filter is_below (times.accesses ++ accesses_of own) ≡ accesses_of own =
+    filter-append is_below times.accesses (accesses_of own)
+    ∙ (λ i. filter-none is_below (λ (a : AccessTimes). not (is_below a)) (λ a out inside. sym (ap not inside) ∙ out) times.accesses above i ++ filter-all is_below (accesses_of own) below i) in
+    let begun : IsStarted (max looked before + 1) next times = next-started start history r t f own b bs looked committed before done next so is in
+    let from = begun.from in
+    let least = so.committed_from in
+    let few = so.committed_by in
+    let most = so.done_by in
+    ap (λ (accesses : List AccessTimes). max next (max (r + 1) (all_done accesses))) kept
+    ∙ ap (λ (n : ℕ). max next (max (r + 1) n)) so.done_is
+    ∙ omega arith

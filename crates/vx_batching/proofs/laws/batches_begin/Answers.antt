@@ -1,2 +1,0 @@
-use Rattle.vx_batching.proofs.Flight
-use Rattle.vx_batching.proofs.Slicing
