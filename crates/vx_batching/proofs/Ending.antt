@@ -1,19 +1,15 @@
 -- How an instruction ends whose batches were gone through: it completes, or stops at the next one, or the episode ends before.
-use Rattle.std.proofs.Common.{◌≡◌, ℕ, ◌+◌, ◌≤◌, ◌<◌, max, Bool, true, false, List, [], ◌∷◌, ◌++◌, refl, sym, ap, ◌∙◌, arith}
-use Rattle.std.specs.Prelude.{◌&&◌, not, nat_lt, map, filter, flat_map, Option, Some, None, is_some, if◌then◌else◌}
-use Rattle.std.specs.List.{list_all}
-use Rattle.std.proofs.lemmas.Bool.{and_from, false≢true}
-use Rattle.std.proofs.lemmas.Grind.{flat_map-append}
-use Rattle.std.proofs.lemmas.List.{append-nil, append_assoc}
-use Rattle.std.proofs.lemmas.List.Elements.{filter-append}
+use Rattle.std.proofs.Common.{◌≡◌, ℕ, ◌+◌, ◌<◌, max, Bool, true, false, List, [], ◌∷◌, ◌++◌, refl, ap, ◌∙◌, arith}
+use Rattle.std.specs.Prelude.{map, filter, Option, Some, None}
+use Rattle.std.proofs.lemmas.List.{append_assoc}
 use Rattle.vx_flat.specs.State.{Flat}
-use Rattle.vx_episode.specs.Batches.{with_commit, batch_times, all_batches, retired_batches}
-use Rattle.vx_episode.specs.Commits.{Happening, timed, happening, happenings_of, why_stopped}
-use Rattle.vx_episode.specs.Commits.What.{Completes, Reaches, Stops}
+use Rattle.vx_episode.specs.Batches.{all_batches, retired_batches}
+use Rattle.vx_episode.specs.Commits.{Happening, timed, happening, happenings_of}
+use Rattle.vx_episode.specs.Commits.What.{Completes, Reaches}
 use Rattle.vx_episode.specs.Cycles.{Cycle, behind, later_of, latest}
 use Rattle.vx_episode.specs.Cycles.Cycle.{At, Never}
-use Rattle.vx_episode.specs.Footprint.{Batch, Footprint, Group}
-use Rattle.vx_episode.specs.History.{History, Entry, BeatTimes, BatchTimes, AccessTimes, Failure, last_retire, stops, passed, batches_of, accesses_of, missing_of, batch_done}
+use Rattle.vx_episode.specs.Footprint.{Batch, Footprint}
+use Rattle.vx_episode.specs.History.{History, Entry, BeatTimes, BatchTimes, last_retire, stops, accesses_of, missing_of, batch_done}
 use Rattle.vx_episode.specs.Instructions.{beat_times, beat_ready, generation_cycle, complete_by, retire_cycle}
 use Rattle.vx_episode.specs.Organisation.{Start}
 use Rattle.vx_episode.specs.declared.ended.Ended.{Ended}

@@ -1,18 +1,18 @@
 -- What of an instruction is under way at the cycle at which its episode ends: its accesses that were queued by then, and its walks
 -- that ended by then.
-use Rattle.std.proofs.Common.{◌≡◌, ℕ, ◌+◌, ◌≤◌, ◌<◌, max, Bool, true, false, List, [], ◌∷◌, ◌++◌, refl, sym, ap, ◌∙◌, arith}
-use Rattle.std.specs.Prelude.{◌&&◌, nat_le, nat_lt, map, filter, flat_map, Option, Some, None}
+use Rattle.std.proofs.Common.{◌≡◌, ℕ, ◌+◌, ◌≤◌, max, Bool, true, false, List, [], ◌∷◌, ◌++◌, refl, ap, ◌∙◌, arith}
+use Rattle.std.specs.Prelude.{◌&&◌, nat_le, filter, Some}
 use Rattle.std.specs.List.{list_all}
-use Rattle.std.proofs.lemmas.Bool.{and_parts, and_from, false≢true, leb-true, le-leb}
+use Rattle.std.proofs.lemmas.Bool.{and_parts, leb-true}
 use Rattle.std.proofs.lemmas.Grind.{flat_map-append}
 use Rattle.std.proofs.lemmas.List.Elements.{filter-append}
 use Rattle.vx_flat.specs.State.{Flat}
-use Rattle.vx_episode.specs.Batches.{with_commit, batch_times, all_batches, retired_batches}
+use Rattle.vx_episode.specs.Batches.{all_batches, retired_batches}
 use Rattle.vx_episode.specs.Commits.{timed}
 use Rattle.vx_episode.specs.Cycles.{Cycle, is_by}
 use Rattle.vx_episode.specs.Cycles.Cycle.{At}
 use Rattle.vx_episode.specs.Footprint.{Batch, Footprint}
-use Rattle.vx_episode.specs.History.{History, Entry, Walk, BatchTimes, AccessTimes, Failure, batches_of, accesses_of, queued_by, walks_of_batches}
+use Rattle.vx_episode.specs.History.{History, Walk, BatchTimes, AccessTimes, Failure, accesses_of, queued_by, walks_of_batches}
 use Rattle.vx_episode.specs.Organisation.{Start}
 use Rattle.vx_quiet.specs.Quiet.{ended_by}
 use Rattle.vx_batching.specs.Batching.{IsReached, next_times, all_done}

@@ -1,21 +1,18 @@
 -- What happens of an instruction, by its batches.
-use Rattle.std.proofs.Common.{◌≡◌, ℕ, ◌+◌, ◌≤◌, ◌<◌, max, Bool, true, false, List, [], ◌∷◌, ◌++◌, refl, sym, ap, ◌∙◌, arith}
-use Rattle.std.specs.Prelude.{◌&&◌, ◌||◌, not, nat_le, nat_lt, map, filter, flat_map, find, reverse, Option, Some, None, if◌then◌else◌}
-use Rattle.std.specs.List.{list_all, list_any}
-use Rattle.std.proofs.lemmas.Bool.{and_parts, and_from, false≢true, leb-true}
+use Rattle.std.proofs.Common.{◌≡◌, ℕ, ◌+◌, Bool, true, false, List, [], ◌∷◌, ◌++◌, refl, sym, ap, ◌∙◌}
+use Rattle.std.specs.Prelude.{nat_lt, map, filter, flat_map, reverse, Option, Some, None, if◌then◌else◌}
+use Rattle.std.specs.List.{list_all}
+use Rattle.std.proofs.lemmas.Bool.{and_parts}
 use Rattle.std.proofs.lemmas.Grind.{flat_map-append}
 use Rattle.std.proofs.lemmas.List.{append-nil, append_assoc, reverse-append}
-use Rattle.std.proofs.lemmas.List.Elements.{filter-append}
 use Rattle.vx_episode.specs.Batches.{retired_batches}
-use Rattle.vx_episode.specs.Commits.{What, Happening, happening, happenings_of, commits_of, batch_commit, not_last, serial_stop, batch_stop, batch_stop_by, batch_stop_cycle, why_stopped, ends, is_stop}
+use Rattle.vx_episode.specs.Commits.{Happening, happening, happenings_of, batch_commit, not_last, serial_stop, batch_stop, batch_stop_by, batch_stop_cycle, why_stopped}
 use Rattle.vx_episode.specs.Commits.What.{Completes, Reaches, Stops}
-use Rattle.vx_episode.specs.Cycles.{Cycle, behind, later_of, latest, is_by, cycles_of}
+use Rattle.vx_episode.specs.Cycles.{Cycle, later_of, latest, cycles_of}
 use Rattle.vx_episode.specs.Cycles.Cycle.{At, Never}
-use Rattle.vx_episode.specs.Episode.{up_to_end}
 use Rattle.vx_episode.specs.History.{Entry, BatchTimes, AccessTimes, Failure, stops, accesses_of}
-use Rattle.vx_batching.specs.Batching.{not_newest, reached, stopped_behind}
-use Rattle.vx_batching.proofs.Lists.{all-parts, reverse-more}
-use Rattle.vx_batching.proofs.Starting.{kept-none}
+use Rattle.vx_batching.specs.Batching.{reached, stopped_behind}
+use Rattle.vx_batching.proofs.Lists.{reverse-more}
 use Rattle.vx_batching.proofs.Stuck.{is_never, never-is}
 use Rattle.vx_batching.proofs.Times.{latest-done}
 
@@ -42,12 +39,12 @@ module _ (e : Entry) where
       reached-one b own ∙ (λ i. reached-never own parts.1 i ++ map (happening e (Reaches b.after)) (cycles_of (never-is b.committed parts.0 i)))
 
   -- the last batch of some is no commit of its own
-  not-last : (later own : List BatchTimes) (x : BatchTimes) (c : Cycle) → not_last (retired_batches c (later ++ x ∷ own)) ≡ not_newest (later ++ x ∷ []) ++ own
+  not-last : (later own : List BatchTimes) (x : BatchTimes) (c : Cycle) → not_last (retired_batches c (later ++ x ∷ own)) ≡ not_last (later ++ x ∷ []) ++ own
   not-last [] own x c = refl
   not-last (y ∷ later) own x c = sym (append_assoc later (x ∷ []) own)
 
-  pub commits-behind : (later own : List BatchTimes) (x : BatchTimes) (c : Cycle) → e.batches ≡ retired_batches c (later ++ x ∷ own) → flat_map (batch_commit e) (reverse (not_last e.batches)) ≡ reached e own ++ reached e (not_newest (later ++ x ∷ []))
-  commits-behind later own x c is = ap (reached e) (ap not_last is ∙ not-last later own x c) ∙ reached-append (not_newest (later ++ x ∷ [])) own
+  pub commits-behind : (later own : List BatchTimes) (x : BatchTimes) (c : Cycle) → e.batches ≡ retired_batches c (later ++ x ∷ own) → flat_map (batch_commit e) (reverse (not_last e.batches)) ≡ reached e own ++ reached e (not_last (later ++ x ∷ []))
+  commits-behind later own x c is = ap (reached e) (ap not_last is ∙ not-last later own x c) ∙ reached-append (not_last (later ++ x ∷ [])) own
 
   -- ---- stops
 
@@ -84,7 +81,7 @@ module _ (e : Entry) where
   pub reaches-behind : (before c : Cycle) (later own : List BatchTimes) (x : BatchTimes) → e.batches ≡ retired_batches c (later ++ x ∷ own) → (follows : List Happening) × (happenings_of before e ≡ reached e own ++ follows)
   reaches-behind before c later own x is =
       let mine : List Happening = reached e own in
-      let more : List Happening = reached e (not_newest (later ++ x ∷ [])) in
+      let more : List Happening = reached e (not_last (later ++ x ∷ [])) in
       let last : List Happening = map (happening e Completes) (cycles_of e.retired) in
       let serial : List Happening = serial_stop e e.footprint.stop in
       let stop : List Happening = batch_stop before e in
@@ -101,7 +98,7 @@ module _ (e : Entry) where
       (λ i. later_of (is i) (later_of (At (r + 1)) (latest (map (λ (a : AccessTimes). At a.done) (filter (λ (a : AccessTimes). nat_lt a.access.element element) (are i))))))
       ∙ ap (λ (c : Cycle). later_of (At looked) (later_of (At (r + 1)) c)) (latest-done (filter (λ (a : AccessTimes). nat_lt a.access.element element) accesses))
 
-  never-newest : (xs : List BatchTimes) → list_all (λ (b : BatchTimes). is_never b.committed) xs ≡ true → list_all (λ (b : BatchTimes). is_never b.committed) (not_newest xs) ≡ true
+  never-newest : (xs : List BatchTimes) → list_all (λ (b : BatchTimes). is_never b.committed) xs ≡ true → list_all (λ (b : BatchTimes). is_never b.committed) (not_last xs) ≡ true
   never-newest [] h = refl
   never-newest (x ∷ xs) h = (and_parts (is_never x.committed) (list_all (λ (b : BatchTimes). is_never b.committed) xs) h).1
 
@@ -111,7 +108,7 @@ module _ (e : Entry) where
   stops-behind before c r from looked later own x failing accesses last stop is retired never only fails first ends-at are =
       let mine : List Happening = reached e own in
       let commits : flat_map (batch_commit e) (reverse (not_last e.batches)) ≡ mine =
-      commits-behind later own x c is ∙ ap (λ (xs : List Happening). mine ++ xs) (reached-never (not_newest (later ++ x ∷ [])) (never-newest (later ++ x ∷ []) never)) ∙ append-nil mine in
+      commits-behind later own x c is ∙ ap (λ (xs : List Happening). mine ++ xs) (reached-never (not_last (later ++ x ∷ [])) (never-newest (later ++ x ∷ []) never)) ∙ append-nil mine in
       let at : batch_stop_cycle before e x failing.element ≡ At (stopped_behind r looked failing.element accesses) = ap (λ (b : Cycle). batch_stop_cycle b e x failing.element) last ∙ stop-cycle r x looked failing.element accesses ends-at are in
       let stopping : batch_stop before e ≡ happening e (Stops (why_stopped e failing) from failing.element) (stopped_behind r looked failing.element accesses) ∷ [] =
       batch-stop-is before c (later ++ x ∷ own) (x ∷ []) is only

@@ -1,7 +1,7 @@
 -- The accesses of a batch that starts at a cycle: those that are queued are so between it and the end of the look-ups. One that
 -- fails is never queued.
-use Rattle.std.proofs.Common.{◌≡◌, ℕ, ◌+◌, ◌≤◌, max, Bool, true, false, List, [], ◌∷◌, ◌++◌, refl, sym, ap, ◌∙◌, arith}
-use Rattle.std.specs.Prelude.{◌&&◌, ◌||◌, not, nat_le, map, flat_map, filter, find, reverse, Option, Some, None, option_map, if◌then◌else◌}
+use Rattle.std.proofs.Common.{◌≡◌, ℕ, max, Bool, true, false, List, [], ◌∷◌, ◌++◌, refl, sym, ap, ◌∙◌, arith}
+use Rattle.std.specs.Prelude.{◌&&◌, not, nat_le, map, flat_map, filter, find, reverse, Option, Some, None, option_map, if◌then◌else◌}
 use Rattle.std.specs.List.{list_all, list_any}
 use Rattle.std.proofs.lemmas.Bool.{and_parts, and_from, false≢true, leb-true, le-leb}
 use Rattle.vx_episode.specs.Batches.{Fate, Judged, Waiting, is_failing, fails_by, is_to, queued_to, unless_failed, queue_cycle, judged, waiting_as, waiting_of, queue_of, serve_cycle, served_at, served_in_turn, is_queued, failure_of, lowest_failure, never_queued}
@@ -12,7 +12,7 @@ use Rattle.vx_episode.specs.Footprint.{Access}
 use Rattle.vx_episode.specs.History.{AccessTimes, Failure}
 use Rattle.vx_episode.specs.Ordered.{placed, ordered}
 use Rattle.vx_episode.specs.Organisation.{Organisation}
-use Rattle.vx_batching.proofs.Lists.{all-both, all-if, all-filter, all-map, all-flat_map, all-more, all-reverse}
+use Rattle.vx_batching.proofs.Lists.{all-if, all-filter, all-map, all-flat_map, all-more, all-reverse}
 use Rattle.vx_batching.proofs.Times.{is_from, from-first}
 use Rattle.vx_batching.proofs.Walking.{is_known}
 

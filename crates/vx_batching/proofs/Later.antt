@@ -1,21 +1,21 @@
 -- The batches behind some: there are more, and those behind the next one start behind the last commit, or never.
 use Rattle.std.proofs.Common.{◌≡◌, ℕ, ◌+◌, ◌≤◌, max, Bool, true, false, ◌⊎◌, inl, inr, List, [], ◌∷◌, ◌++◌, refl, sym, ap, ◌∙◌, arith}
-use Rattle.std.specs.Prelude.{◌&&◌, not, nat_le, map, filter, if◌then◌else◌}
+use Rattle.std.specs.Prelude.{◌&&◌, nat_le, map, if◌then◌else◌}
 use Rattle.std.specs.List.{list_all}
 use Rattle.std.proofs.lemmas.Bool.{cases_Bool, and_parts, and_from, leb-true, leb-false, le-leb}
 use Rattle.std.proofs.lemmas.List.{append_assoc, map-append}
 use Rattle.vx_tables.specs.Residency.{is_store}
-use Rattle.vx_episode.specs.Batches.{start_cycle, commit_cycle, with_commit, not_started, batch_started, batch_times, all_batches}
+use Rattle.vx_episode.specs.Batches.{start_cycle, commit_cycle, batch_started, batch_times, all_batches}
 use Rattle.vx_episode.specs.Cycles.{Cycle, behind, later_of, latest}
 use Rattle.vx_episode.specs.Cycles.Cycle.{At, Never}
 use Rattle.vx_episode.specs.Footprint.{Access, Batch, Footprint}
-use Rattle.vx_episode.specs.History.{History, Walk, BatchTimes, AccessTimes, last_retire, word_ready, stops, passed, commit_before_last, batches_of, accesses_of, missing_of, done_cycles, batch_done}
+use Rattle.vx_episode.specs.History.{History, Walk, BatchTimes, AccessTimes, last_retire, word_ready, passed, batches_of, accesses_of, missing_of, done_cycles, batch_done}
 use Rattle.vx_episode.specs.Organisation.{Start}
 use Rattle.vx_batching.proofs.Judging.{is_queued_between}
-use Rattle.vx_batching.proofs.Lists.{all-both, all-more, le-more}
+use Rattle.vx_batching.proofs.Lists.{all-both, all-more}
 use Rattle.vx_batching.proofs.Passing.{ends_of}
 use Rattle.vx_batching.proofs.Started.{IsStarted, is-started, its_end}
-use Rattle.vx_batching.proofs.Times.{is_from, from-first, from-second, from-behind, latest-append, later_of-never}
+use Rattle.vx_batching.proofs.Times.{is_from, from-first, from-second, from-behind, latest-append}
 use Rattle.vx_batching.proofs.Walking.{is_between}
 
 -- ---- more batches, each of which passes a test

@@ -1,10 +1,9 @@
 -- Lists: all of which pass a test, what a filter keeps, and the greatest of some cycles.
 use Rattle.std.proofs.Common.{◌≡◌, ℕ, ◌≤◌, max, Bool, true, false, List, [], ◌∷◌, ◌++◌, refl, sym, ap, ◌∙◌, arith}
-use Rattle.std.specs.Prelude.{◌&&◌, nat_le, nat_lt, map, filter, flat_map, find, reverse, Option, None, if◌then◌else◌}
+use Rattle.std.specs.Prelude.{nat_le, map, filter, flat_map, reverse, if◌then◌else◌}
 use Rattle.std.specs.List.{list_all}
-use Rattle.std.proofs.lemmas.Bool.{and_parts, and_from, false≢true, leb-true, le-leb, ltb-true, le-ltb}
-use Rattle.std.proofs.lemmas.List.{append-nil, map-append, reverse-append}
-use Rattle.std.proofs.lemmas.List.Elements.{filter-append}
+use Rattle.std.proofs.lemmas.Bool.{and_parts, and_from, leb-true, le-leb}
+use Rattle.std.proofs.lemmas.List.{map-append, reverse-append}
 use Rattle.std.proofs.lemmas.List.Folds.{list_all-append}
 use Rattle.vx_episode.specs.Episode.{greatest}
 use Rattle.vx_episode.specs.History.{AccessTimes}

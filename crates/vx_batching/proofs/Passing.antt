@@ -1,13 +1,13 @@
 -- A batch that doesn't stop is gone through.
-use Rattle.std.proofs.Common.{◌≡◌, ℕ, ◌+◌, ◌≤◌, ◌<◌, max, Bool, true, false, List, [], ◌∷◌, ◌++◌, refl, sym, ap, ◌∙◌, arith}
-use Rattle.std.specs.Prelude.{◌&&◌, nat_le, map, filter, Option, None, if◌then◌else◌, is_some}
+use Rattle.std.proofs.Common.{◌≡◌, ℕ, ◌+◌, ◌≤◌, max, Bool, true, false, List, [], ◌∷◌, ◌++◌, sym, ap, ◌∙◌, arith}
+use Rattle.std.specs.Prelude.{◌&&◌, nat_le, map, filter, None, if◌then◌else◌, is_some}
 use Rattle.std.specs.List.{list_all}
-use Rattle.std.proofs.lemmas.Bool.{and_parts, and_from, leb-true, le-leb}
-use Rattle.vx_episode.specs.Batches.{start_cycle, commit_cycle, with_commit, all_batches}
+use Rattle.std.proofs.lemmas.Bool.{and_parts, and_from}
+use Rattle.vx_episode.specs.Batches.{commit_cycle, with_commit, all_batches}
 use Rattle.vx_episode.specs.Cycles.{Cycle, behind, later_of, latest, is_by}
 use Rattle.vx_episode.specs.Cycles.Cycle.{At, Never}
 use Rattle.vx_episode.specs.Footprint.{Access, Batch, Footprint}
-use Rattle.vx_episode.specs.History.{History, Walk, BatchTimes, AccessTimes, Failure, last_retire, stops, batches_of, accesses_of, missing_of, done_cycles, batch_done, walks_of_batches}
+use Rattle.vx_episode.specs.History.{History, Walk, BatchTimes, AccessTimes, last_retire, stops, batches_of, accesses_of, missing_of, done_cycles, batch_done, walks_of_batches}
 use Rattle.vx_episode.specs.Organisation.{Start}
 use Rattle.vx_batching.specs.Batching.{IsReached, next_times, all_done}
 use Rattle.vx_batching.proofs.Judging.{is_queued_between}

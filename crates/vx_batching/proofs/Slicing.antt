@@ -1,6 +1,6 @@
 -- Commits of batches that don't end the episode.
-use Rattle.std.proofs.Common.{◌≡◌, ℕ, ◌<◌, ◌≤◌, Bool, true, false, List, [], ◌∷◌, ◌++◌, refl, sym, ap, ◌∙◌, arith}
-use Rattle.std.specs.Prelude.{◌&&◌, ◌||◌, nat_le, map, find, Option, Some, None, if◌then◌else◌}
+use Rattle.std.proofs.Common.{◌≡◌, ℕ, ◌<◌, Bool, true, false, List, [], ◌∷◌, ◌++◌, refl, sym, ap, ◌∙◌, arith}
+use Rattle.std.specs.Prelude.{◌||◌, nat_le, map, find, Some, if◌then◌else◌}
 use Rattle.std.specs.List.{list_all, list_any}
 use Rattle.std.proofs.lemmas.Bool.{and_parts, false≢true, leb-true, lt-leb}
 use Rattle.std.proofs.lemmas.List.Folds.{list_any-append}
@@ -55,3 +55,13 @@ goes-behind until [] ys h = refl
 goes-behind until (x ∷ xs) ys h =
     let parts = or-parts (ends until x) (list_any (ends until) xs) h in
     ap (λ (b : Bool). if b then x ∷ [] else x ∷ up_to_end until (xs ++ ys)) parts.0 ∙ ap (λ (rest : List Happening). x ∷ rest) (goes-behind until xs ys parts.1)
+
+pub any-behind : (until : ℕ) (xs ys : List Happening) → list_any (ends until) xs ≡ false → list_any (ends until) (xs ++ ys) ≡ list_any (ends until) ys
+any-behind until xs ys h = list_any-append (ends until) xs ys ∙ ap (λ (b : Bool). b || list_any (ends until) ys) h
+
+-- one that ends it
+pub finds-end : (until : ℕ) (xs ys : List Happening) (e : Happening) → list_any (ends until) xs ≡ false → ends until e ≡ true → find (ends until) (xs ++ e ∷ ys) ≡ Some e
+finds-end until xs ys e h is = finds-behind until xs (e ∷ ys) h ∙ ap (λ (b : Bool). if b then Some e else find (ends until) ys) is
+
+pub ends-there : (until : ℕ) (xs ys : List Happening) (e : Happening) → list_any (ends until) xs ≡ false → ends until e ≡ true → up_to_end until (xs ++ e ∷ ys) ≡ xs ++ e ∷ []
+ends-there until xs ys e h is = goes-behind until xs (e ∷ ys) h ∙ ap (λ (b : Bool). xs ++ (if b then e ∷ [] else e ∷ up_to_end until ys)) is

@@ -1,18 +1,16 @@
 -- A batch that starts at a cycle: what its times are.
-use Rattle.std.proofs.Common.{◌≡◌, ℕ, ◌≤◌, Bool, true, false, List, [], ◌∷◌, ◌++◌, refl, sym, ap, subst, ◌∙◌}
-use Rattle.std.specs.Prelude.{◌&&◌, nat_le, Option, Some, None}
+use Rattle.std.proofs.Common.{◌≡◌, ℕ, ◌≤◌, Bool, true, false, List, [], refl, sym, ap, subst, ◌∙◌}
+use Rattle.std.specs.Prelude.{Some, None}
 use Rattle.std.specs.List.{list_all}
-use Rattle.vx_base.specs.declared.machine.Want.{Want}
-use Rattle.vx_episode.specs.Batches.{Fate, Judged, fate_of, walks_end, walks_of, judged, queue_of, served_in_turn, lowest_failure, trims, never_queued, start_cycle, batch_judged, batch_started, batch_times}
+use Rattle.vx_episode.specs.Batches.{Judged, fate_of, walks_end, walks_of, judged, lowest_failure, trims, never_queued, start_cycle, batch_started, batch_times}
 use Rattle.vx_episode.specs.Cycles.{Cycle}
 use Rattle.vx_episode.specs.Cycles.Cycle.{At, Never}
-use Rattle.vx_episode.specs.Footprint.{Access, Batch, Footprint}
-use Rattle.vx_episode.specs.History.{History, Walk, BatchTimes, AccessTimes, Failure, accesses_of}
+use Rattle.vx_episode.specs.Footprint.{Batch, Footprint}
+use Rattle.vx_episode.specs.History.{History, Walk, BatchTimes, Failure, accesses_of}
 use Rattle.vx_episode.specs.Organisation.{Start}
 use Rattle.vx_batching.proofs.Judging.{is_judged, is_queued_between, all-judged, all-queued, failure-missing}
-use Rattle.vx_batching.proofs.Times.{at-cycle, never-at}
+use Rattle.vx_batching.proofs.Times.{at-cycle}
 use Rattle.vx_batching.proofs.Walking.{is_between, AreBetween, walks-between, fates-known, none-between}
-use Rattle.std.proofs.lemmas.Bool.{false≢true}
 
 -- the times of a batch that starts at a cycle and whose look-ups end at another one
 pub record IsStarted (started looked : ℕ) (b : BatchTimes) : Type 0 where

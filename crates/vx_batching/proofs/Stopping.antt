@@ -1,19 +1,19 @@
 -- How an instruction stops at its next batch.
-use Rattle.std.proofs.Common.{◌≡◌, ℕ, ◌+◌, ◌≤◌, ◌<◌, max, Bool, true, false, List, [], ◌∷◌, ◌++◌, refl, sym, ap, ◌∙◌, arith}
-use Rattle.std.specs.Prelude.{◌&&◌, not, nat_lt, map, filter, flat_map, Option, Some, None, is_some, if◌then◌else◌}
+use Rattle.std.proofs.Common.{◌≡◌, ℕ, ◌+◌, max, Bool, true, false, List, [], ◌∷◌, ◌++◌, refl, sym, ap, ◌∙◌, arith}
+use Rattle.std.specs.Prelude.{not, nat_lt, filter, Some, None, is_some, if◌then◌else◌}
 use Rattle.std.specs.List.{list_all}
-use Rattle.std.proofs.lemmas.Bool.{and_parts, and_from, false≢true}
+use Rattle.std.proofs.lemmas.Bool.{and_parts, and_from}
 use Rattle.std.proofs.lemmas.Grind.{flat_map-append}
 use Rattle.std.proofs.lemmas.List.Elements.{filter-append}
 use Rattle.vx_flat.specs.State.{Flat}
-use Rattle.vx_episode.specs.Batches.{with_commit, batch_times, all_batches, retired_batches}
+use Rattle.vx_episode.specs.Batches.{all_batches, retired_batches}
 use Rattle.vx_episode.specs.Commits.{timed, happening, happenings_of, why_stopped}
 use Rattle.vx_episode.specs.Commits.What.{Stops}
 use Rattle.vx_episode.specs.Cycles.{Cycle}
 use Rattle.vx_episode.specs.Cycles.Cycle.{At, Never}
 use Rattle.vx_episode.specs.Footprint.{Batch, Footprint}
 use Rattle.vx_episode.specs.History.{History, Entry, BatchTimes, AccessTimes, Failure, last_retire, stops, passed, batches_of, accesses_of}
-use Rattle.vx_episode.specs.Instructions.{beat_times, generation_cycle, complete_by}
+use Rattle.vx_episode.specs.Instructions.{beat_times, generation_cycle}
 use Rattle.vx_episode.specs.Organisation.{Start}
 use Rattle.vx_batching.specs.Batching.{IsReached, next_times, all_done, reached, stopped_behind}
 use Rattle.vx_batching.proofs.Ending.{accesses-retired, entry-batches, never-retired, never-complete}

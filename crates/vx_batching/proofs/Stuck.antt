@@ -1,14 +1,14 @@
 -- Behind a batch that stops none starts.
-use Rattle.std.proofs.Common.{◌≡◌, ℕ, ◌+◌, Bool, true, false, List, [], ◌∷◌, ◌++◌, refl, sym, ap, ◌∙◌}
-use Rattle.std.specs.Prelude.{◌&&◌, not, nat_le, map, filter, flat_map, Option, Some, None, is_some, if◌then◌else◌}
+use Rattle.std.proofs.Common.{◌≡◌, ℕ, ◌+◌, Bool, true, false, List, [], ◌∷◌, ◌++◌, refl, ap, ◌∙◌}
+use Rattle.std.specs.Prelude.{◌&&◌, not, nat_le, map, filter, if◌then◌else◌}
 use Rattle.std.specs.List.{list_all}
-use Rattle.std.proofs.lemmas.Bool.{and_parts, and_from, false≢true}
+use Rattle.std.proofs.lemmas.Bool.{and_parts, false≢true}
 use Rattle.vx_tables.specs.Residency.{is_store}
-use Rattle.vx_episode.specs.Batches.{start_cycle, with_commit, not_started, batch_started, batch_times, all_batches}
+use Rattle.vx_episode.specs.Batches.{start_cycle, with_commit, not_started, batch_started, all_batches}
 use Rattle.vx_episode.specs.Cycles.{Cycle, behind, later_of, latest}
 use Rattle.vx_episode.specs.Cycles.Cycle.{At, Never}
 use Rattle.vx_episode.specs.Footprint.{Access, Batch, Footprint}
-use Rattle.vx_episode.specs.History.{History, Walk, BatchTimes, AccessTimes, Failure, last_retire, word_ready, stops, passed, commit_before_last, batches_of, accesses_of, missing_of, batch_done, walks_of_batches}
+use Rattle.vx_episode.specs.History.{History, Walk, BatchTimes, AccessTimes, last_retire, word_ready, stops, passed, commit_before_last, batches_of, accesses_of, missing_of, batch_done, walks_of_batches}
 use Rattle.vx_episode.specs.Organisation.{Start}
 use Rattle.vx_batching.proofs.Later.{IsMore, no-more, one-more, commit_of, with_its_commit, is_late}
 use Rattle.vx_batching.proofs.Lists.{all-more}

@@ -1,15 +1,13 @@
 -- Cycles: what comes by another one, what comes from another one on, and the latest of some.
-use Rattle.std.proofs.Common.{◌≡◌, ℕ, ◌+◌, ◌≤◌, max, Bool, true, false, List, [], ◌∷◌, ◌++◌, refl, sym, ap, ◌∙◌, inl, inr, arith}
-use Rattle.std.specs.Prelude.{◌&&◌, nat_le, map}
+use Rattle.std.proofs.Common.{◌≡◌, ℕ, ◌+◌, ◌≤◌, max, Bool, true, false, List, [], ◌∷◌, ◌++◌, refl, sym, ap, ◌∙◌, arith}
+use Rattle.std.specs.Prelude.{nat_le, map}
 use Rattle.std.specs.List.{list_all}
-use Rattle.std.proofs.lemmas.Bool.{cases_Bool, and_parts, and_from, false≢true, leb-true, leb-false, le-leb, lt-leb}
-use Rattle.vx_episode.specs.Cycles.{Cycle, later, behind, later_of, latest, is_by}
+use Rattle.std.proofs.lemmas.Bool.{and_parts, false≢true, leb-true, le-leb}
+use Rattle.vx_episode.specs.Cycles.{Cycle, behind, later_of, latest, is_by}
 use Rattle.vx_episode.specs.Cycles.Cycle.{At, Never}
-use Rattle.vx_episode.specs.Episode.{greatest}
 use Rattle.vx_episode.specs.Footprint.{Access}
-use Rattle.vx_episode.specs.History.{AccessTimes, done_cycles}
+use Rattle.vx_episode.specs.History.{AccessTimes}
 use Rattle.vx_batching.specs.Batching.{all_done}
-use Rattle.vx_batching.proofs.Lists.{all-more}
 
 pub at-cycle : (a b : ℕ) → At a ≡ At b → a ≡ b
 at-cycle a b e = cc

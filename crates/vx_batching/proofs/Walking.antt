@@ -1,9 +1,9 @@
 -- The walks of a batch that starts at a cycle: they begin then or later, one behind another, and have ended by the end of its
 -- look-ups. So what is known of an access is known between the two.
-use Rattle.std.proofs.Common.{◌≡◌, ℕ, ◌+◌, ◌≤◌, Bool, true, false, List, [], ◌∷◌, refl, ap, arith}
-use Rattle.std.specs.Prelude.{◌&&◌, nat_le, find, Option, Some, None, if◌then◌else◌}
+use Rattle.std.proofs.Common.{◌≡◌, ℕ, ◌≤◌, Bool, true, false, List, [], ◌∷◌, refl, arith}
+use Rattle.std.specs.Prelude.{◌&&◌, nat_le, find, Option, Some, if◌then◌else◌}
 use Rattle.std.specs.List.{list_all}
-use Rattle.std.proofs.lemmas.Bool.{and_parts, and_from, leb-true, le-leb}
+use Rattle.std.proofs.lemmas.Bool.{and_parts, and_from, le-leb}
 use Rattle.vx_base.specs.declared.machine.Want.{Want}
 use Rattle.vx_image.specs.Pages.{page_of}
 use Rattle.vx_tables.specs.declared.look.Look.{Look}

@@ -1,9 +1,9 @@
 -- The batches of one instruction behind a quiet history: they go one behind another, and four cycles tell of those that were gone
 -- through. This project's own.
-use Rattle.std.specs.Prelude.{◌≡◌, ℕ, ◌+◌, ◌<◌, ◌≤◌, max, Bool, true, nat_le, nat_lt, List, [], ◌∷◌, ◌++◌, map, flat_map, filter, reverse}
+use Rattle.std.specs.Prelude.{◌≡◌, ℕ, ◌+◌, ◌<◌, ◌≤◌, max, true, nat_le, nat_lt, List, [], ◌∷◌, ◌++◌, map, flat_map, filter, reverse}
 use Rattle.std.specs.List.{list_all}
 use Rattle.vx_episode.specs.Batches.{commit_cycle, batch_times, all_batches}
-use Rattle.vx_episode.specs.Commits.{Happening, batch_commit}
+use Rattle.vx_episode.specs.Commits.{Happening, batch_commit, not_last}
 use Rattle.vx_episode.specs.Cycles.{Cycle, is_by}
 use Rattle.vx_episode.specs.Cycles.Cycle.{At}
 use Rattle.vx_episode.specs.Episode.{greatest}
@@ -30,11 +30,6 @@ last_commit retired (b ∷ own) = b.committed
 abbrev pub commit_before : (retired : ℕ) → List BatchTimes → Cycle
 commit_before retired [] = At 0
 commit_before retired (b ∷ own) = last_commit retired own
-
--- the batches before the last
-abbrev pub not_newest : List BatchTimes → List BatchTimes
-not_newest [] = []
-not_newest (b ∷ own) = own
 
 -- the cycle by which accesses are done
 abbrev pub all_done : List AccessTimes → ℕ
@@ -64,7 +59,7 @@ pub record IsReached (start : Start) (history : History) (retired issued : ℕ) 
   pub committed_by : committed ≤ max (retired + 1) (max looked done)
   pub all_looked_up : list_all (λ (b : BatchTimes). is_by committed b.looked_up) own ≡ true
   pub all_committed : list_all (λ (b : BatchTimes). is_by committed b.committed) own ≡ true
-  pub committed_before : list_all (λ (b : BatchTimes). is_by before b.committed) (not_newest own) ≡ true
+  pub committed_before : list_all (λ (b : BatchTimes). is_by before b.committed) (not_last own) ≡ true
   pub queued : list_all (λ (a : AccessTimes). nat_le a.queued looked) (accesses_of own) ≡ true
   pub walked : list_all (λ (w : Walk). nat_le w.ended looked) (walks_of_batches own) ≡ true
 

@@ -2,7 +2,7 @@ ghost use Rattle.std.specs.Prelude.{◌≡◌, ℕ, ◌+◌, ◌<◌, ◌≤◌,
 ghost use Rattle.std.specs.List.{list_all, list_any};
 ghost use Rattle.vx_flat.specs.State.{Flat};
 ghost use Rattle.vx_episode.specs.Batches.{start_cycle, batch_started, with_commit};
-ghost use Rattle.vx_episode.specs.Commits.{Happening, timed, happening, happenings_of, why_stopped, ends};
+ghost use Rattle.vx_episode.specs.Commits.{Happening, timed, happening, happenings_of, why_stopped, not_last, ends};
 ghost use Rattle.vx_episode.specs.Commits.What.{Completes, Reaches, Stops};
 ghost use Rattle.vx_episode.specs.Cycles.Cycle.{At, Never};
 ghost use Rattle.vx_episode.specs.Episode.{up_to_end};
@@ -10,7 +10,7 @@ ghost use Rattle.vx_episode.specs.Footprint.{Batch, Footprint};
 ghost use Rattle.vx_episode.specs.History.{History, Entry, Walk, BatchTimes, AccessTimes, Failure, last_retire, batches_of, accesses_of, queued_by, walks_of_batches};
 ghost use Rattle.vx_episode.specs.Organisation.{Start};
 ghost use Rattle.vx_quiet.specs.Quiet.{IsQuiet, ended_by};
-ghost use Rattle.vx_batching.specs.Batching.{IsReached, next_times, not_newest, all_done, reached, completed_behind, stopped_behind};
+ghost use Rattle.vx_batching.specs.Batching.{IsReached, next_times, all_done, reached, completed_behind, stopped_behind};
 
 /// At the issue none of the batches was gone through.
 pub fn batches_begin()
@@ -50,7 +50,7 @@ pub fn a_batch_passes()
 {}
 
 /// An instruction whose batches were all gone through completes once the look-ups of the last have ended and its accesses are done. What
-/// happens is that each of its batches but the last commits, and that it completes.
+/// happens is that each of its batches but the last commits, and that it completes. A batch that is cut off is the last.
 pub fn instructions_complete_behind_their_batches()
     ensures completed { (start : Start) (history : History) (s : Flat) (retired issued : ℕ) (f : Footprint) (last : BatchTimes) (own : List BatchTimes) (looked committed before done : ℕ)
         → (timed start history s f).issued ≡ At issued → IsReached start history retired issued f (last ∷ own) [] looked committed before done → f.stop ≡ None → f.groups ≡ []
@@ -59,6 +59,16 @@ pub fn instructions_complete_behind_their_batches()
         → (timed start history s f).issued ≡ At issued → IsReached start history retired issued f (last ∷ own) [] looked committed before done → f.stop ≡ None → f.groups ≡ []
         → happenings_of (last_retire start.cycle history) (timed start history s f)
         ≡ reached (timed start history s f) own ++ happening (timed start history s f) Completes (completed_behind issued f looked done + 1) ∷ [] }
+    ensures trimmed_completed { (start : Start) (history : History) (s : Flat) (retired issued : ℕ) (f : Footprint) (own : List BatchTimes) (b : Batch) (rest : List Batch) (looked committed before done next : ℕ)
+        → (timed start history s f).issued ≡ At issued → IsReached start history retired issued f own (b ∷ rest) looked committed before done → f.stop ≡ None → f.groups ≡ []
+        → (next_times start history issued f own b).is_trimmed ≡ true → (next_times start history issued f own b).looked_up ≡ At next
+        → (timed start history s f).completed ≡ At (completed_behind issued f next (max done (all_done (next_times start history issued f own b).accesses))) }
+    ensures trimmed_happens { (start : Start) (history : History) (s : Flat) (retired issued : ℕ) (f : Footprint) (own : List BatchTimes) (b : Batch) (rest : List Batch) (looked committed before done next : ℕ)
+        → (timed start history s f).issued ≡ At issued → IsReached start history retired issued f own (b ∷ rest) looked committed before done → f.stop ≡ None → f.groups ≡ []
+        → (next_times start history issued f own b).is_trimmed ≡ true → (next_times start history issued f own b).looked_up ≡ At next
+        → happenings_of (last_retire start.cycle history) (timed start history s f)
+        ≡ reached (timed start history s f) own
+        ++ happening (timed start history s f) Completes (completed_behind issued f next (max done (all_done (next_times start history issued f own b).accesses)) + 1) ∷ [] }
 {}
 
 /// An instruction stops in a batch that has a failure and isn't cut off: it never completes. What happens is that all batches before
@@ -109,9 +119,14 @@ pub fn batches_commit()
         → list_any (ends until) (reached e own) ≡ false }
     ensures none_before_ends { (start : Start) (history : History) (retired issued : ℕ) (f : Footprint) (own : List BatchTimes) (rest : List Batch) (looked committed before done until : ℕ) (e : Entry)
         → IsReached start history retired issued f own rest looked committed before done → before < until
-        → list_any (ends until) (reached e (not_newest own)) ≡ false }
+        → list_any (ends until) (reached e (not_last own)) ≡ false }
+    ensures any_ends { (until : ℕ) (happened follows : List Happening) → list_any (ends until) happened ≡ false → list_any (ends until) (happened ++ follows) ≡ list_any (ends until) follows }
     ensures finds { (until : ℕ) (happened follows : List Happening) → list_any (ends until) happened ≡ false → find (ends until) (happened ++ follows) ≡ find (ends until) follows }
     ensures goes_on { (until : ℕ) (happened follows : List Happening) → list_any (ends until) happened ≡ false → up_to_end until (happened ++ follows) ≡ happened ++ up_to_end until follows }
+    ensures finds_end { (until : ℕ) (happened follows : List Happening) (h : Happening) → list_any (ends until) happened ≡ false → ends until h ≡ true
+        → find (ends until) (happened ++ h ∷ follows) ≡ Some h }
+    ensures ends_there { (until : ℕ) (happened follows : List Happening) (h : Happening) → list_any (ends until) happened ≡ false → ends until h ≡ true
+        → up_to_end until (happened ++ h ∷ follows) ≡ happened ++ h ∷ [] }
 {}
 
 /// What of an instruction was queued by the cycle at which its episode ends, and which of its walks had ended. At the commit of a batch:

@@ -2,7 +2,7 @@ use Rattle.std.proofs.Common.{◌+◌, max, ◌++◌, ap}
 use Rattle.vx_episode.specs.Batches.{batch_started}
 use Rattle.vx_episode.specs.Cycles.Cycle.{At}
 use Rattle.vx_episode.specs.History.{batches_of}
-use Rattle.vx_batching.proofs.Started.{IsStarted, times-looked}
+use Rattle.vx_batching.proofs.Started.{times-looked}
 use Rattle.vx_batching.proofs.Starting.{starts}
 use Rattle.vx_batching.proofs.laws.a_batch_starts.Goals as goal
 

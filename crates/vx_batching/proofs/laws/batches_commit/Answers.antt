@@ -1,7 +1,7 @@
-use Rattle.vx_batching.specs.Batching.{not_newest}
+use Rattle.vx_episode.specs.Commits.{not_last}
 use Rattle.vx_batching.proofs.Ending.{reaches}
 use Rattle.vx_batching.proofs.Happening.{reached-more}
-use Rattle.vx_batching.proofs.Slicing.{none-ends, more-ends, finds-behind, goes-behind}
+use Rattle.vx_batching.proofs.Slicing.{none-ends, more-ends, any-behind, finds-behind, goes-behind, finds-end, ends-there}
 use Rattle.vx_batching.proofs.laws.batches_commit.Goals as goal
 
 pub returns-clause-reaches : goal.returns-clause-reaches
@@ -18,10 +18,19 @@ pub returns-clause-none_ends : goal.returns-clause-none_ends
 returns-clause-none_ends c start history retired issued f own rest looked committed before done until e so few = none-ends e until committed few own so.all_committed
 
 pub returns-clause-none_before_ends : goal.returns-clause-none_before_ends
-returns-clause-none_before_ends c start history retired issued f own rest looked committed before done until e so few = none-ends e until before few (not_newest own) so.committed_before
+returns-clause-none_before_ends c start history retired issued f own rest looked committed before done until e so few = none-ends e until before few (not_last own) so.committed_before
+
+pub returns-clause-any_ends : goal.returns-clause-any_ends
+returns-clause-any_ends c until happened follows h = any-behind until happened follows h
 
 pub returns-clause-finds : goal.returns-clause-finds
 returns-clause-finds c until happened follows h = finds-behind until happened follows h
 
 pub returns-clause-goes_on : goal.returns-clause-goes_on
 returns-clause-goes_on c until happened follows h = goes-behind until happened follows h
+
+pub returns-clause-finds_end : goal.returns-clause-finds_end
+returns-clause-finds_end c until happened follows h none is = finds-end until happened follows h none is
+
+pub returns-clause-ends_there : goal.returns-clause-ends_there
+returns-clause-ends_there c until happened follows h none is = ends-there until happened follows h none is
