@@ -85,8 +85,9 @@ module _ (start : Start) (history : History) (s : Flat) (r t : ℕ) (f : Footpri
       → (follows : List Happening) × (happenings_of (last_retire start.cycle history) entry ≡ reached entry own ++ happening entry (Reaches l.after) committed ∷ follows)
   reaches l own b bs looked committed before done so =
       let more = more-behind (l ∷ own) b bs in
-      let all = reaches-behind entry (last_retire start.cycle history) entry.retired more.0 (l ∷ own) more.1.0 (entry-batches (l ∷ own) (b ∷ bs) looked committed before done so ∙ ap (retired_batches entry.retired) more.1.1) in
-      (all.0,
-       all.1
-       ∙ ap (λ (xs : List Happening). xs ++ all.0) (reached-more entry l own committed so.committed_is)
-       ∙ append_assoc (reached entry own) (happening entry (Reaches l.after) committed ∷ []) all.0)
+      let all = reaches-behind entry (last_retire start.cycle history) entry.retired more.0 (l ∷ own) more.1.0 (entry-batches (l ∷ own) (b ∷ bs) looked committed before done so ∙ ap (retired_batches entry.retired) more.1.1) in (
+        all.0,
+        all.1
+            ∙ ap (λ (xs : List Happening). xs ++ all.0) (reached-more entry l own committed so.committed_is)
+            ∙ append_assoc (reached entry own) (happening entry (Reaches l.after) committed ∷ []) all.0,
+      )

@@ -116,11 +116,14 @@ module _ (start : Start) (history : History) (s : Flat) (r t : ℕ) (f : Footpri
       (late-walks start history committed late.later late.each) (ended-more looked committed looked-by (walks_of_batches (l ∷ own)) so.walked)
 
   pub reached-begun : (later : List Walk) × ((walks_of_batches its_batches ≡ later ++ (its_times.walks ++ walks_of_batches (l ∷ own))) × (list_all (λ (w : Walk). nat_le (committed + 1) w.begun) later ≡ true))
-  reached-begun =
-      (walks_of_batches late.later,
-       (walks-are,
-        all-more (λ (w : Walk). nat_le (committed + 1) w.begun && nat_le (committed + 1) w.ended) (λ (w : Walk). nat_le (committed + 1) w.begun) (λ w h. (and_parts (nat_le (committed + 1) w.begun) (nat_le (committed + 1) w.ended) h).0) (walks_of_batches late.later)
-        (late-walks start history committed late.later late.each)))
+  reached-begun = (
+    walks_of_batches late.later,
+    (
+      walks-are,
+      all-more (λ (w : Walk). nat_le (committed + 1) w.begun && nat_le (committed + 1) w.ended) (λ (w : Walk). nat_le (committed + 1) w.begun) (λ w h. (and_parts (nat_le (committed + 1) w.begun) (nat_le (committed + 1) w.ended) h).0) (walks_of_batches late.later)
+          (late-walks start history committed late.later late.each),
+    ),
+  )
 
 -- ---- at a stop
 

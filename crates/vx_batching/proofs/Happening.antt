@@ -84,12 +84,13 @@ module _ (e : Entry) where
       let more : List Happening = reached e (not_last (later ++ x ∷ [])) in
       let last : List Happening = map (happening e Completes) (cycles_of e.retired) in
       let serial : List Happening = serial_stop e e.footprint.stop in
-      let stop : List Happening = batch_stop before e in
-      (more ++ last ++ serial ++ stop,
-       ap (λ (commits : List Happening). commits ++ last ++ serial ++ stop) (commits-behind later own x c is)
-       ∙ ap (λ (xs : List Happening). xs ++ serial ++ stop) (append_assoc mine more last)
-       ∙ ap (λ (xs : List Happening). xs ++ stop) (append_assoc mine (more ++ last) serial)
-       ∙ append_assoc mine (more ++ last ++ serial) stop)
+      let stop : List Happening = batch_stop before e in (
+        more ++ last ++ serial ++ stop,
+        ap (λ (commits : List Happening). commits ++ last ++ serial ++ stop) (commits-behind later own x c is)
+            ∙ ap (λ (xs : List Happening). xs ++ serial ++ stop) (append_assoc mine more last)
+            ∙ ap (λ (xs : List Happening). xs ++ stop) (append_assoc mine (more ++ last) serial)
+            ∙ append_assoc mine (more ++ last ++ serial) stop,
+      )
 
   -- ---- one that stops
 

@@ -91,9 +91,9 @@ from-grown k retire looked earlier dones done h =
     elim (from-either k retire (later_of earlier done) h) [
       | inl first ↦ from-first k retire (later_of looked rest) first
       | inr second ↦ from-second k retire (later_of looked rest) (from-second k looked rest (elim (from-either k earlier done second) [
-          | inl first ↦ from-first k earlier (later_of dones done) first
-          | inr last ↦ from-second k earlier (later_of dones done) (from-second k dones done last)
-        ]))
+        | inl first ↦ from-first k earlier (later_of dones done) first
+        | inr last ↦ from-second k earlier (later_of dones done) (from-second k dones done last)
+      ]))
     ]
 
 module _ (start : Start) (history : History) where

@@ -100,9 +100,9 @@ module _ (start : Start) (history : History) where
       let now : BatchTimes = with_its_commit start history acc (not_started start history b) in
       more-eq is_idle (all_batches start history acc (At t) f (b ∷ bs)) (all_batches start history (now ∷ acc) (At t) f bs) acc
       (ap (λ (c : Cycle). elim ((batch_started start history before f b c).is_trimmed) as (λ _. List BatchTimes) [
-          | true ↦ with_commit start history acc (batch_started start history before f b c)
-          | false ↦ all_batches start history (with_commit start history acc (batch_started start history before f b c)) (At t) f bs
-        ]) (stuck-start t f x (own ++ batches_of history) b e))
+        | true ↦ with_commit start history acc (batch_started start history before f b c)
+        | false ↦ all_batches start history (with_commit start history acc (batch_started start history before f b c)) (At t) f bs
+      ]) (stuck-start t f x (own ++ batches_of history) b e))
       (one-more is_idle (all_batches start history (now ∷ acc) (At t) f bs) acc now (idle-now acc b) (all-idle t f bs now acc refl))
 
   -- ---- what they come to

@@ -26,7 +26,7 @@ abbrev pub last_commit : (retired : ℕ) → List BatchTimes → Cycle
 last_commit retired [] = At (retired + 1)
 last_commit retired (b ∷ own) = b.committed
 
--- that of the batches before the last
+-- the same of the batches before the last one
 abbrev pub commit_before : (retired : ℕ) → List BatchTimes → Cycle
 commit_before retired [] = At 0
 commit_before retired (b ∷ own) = last_commit retired own

@@ -8,6 +8,6 @@
 mod laws;
 
 pub use laws::{
-    a_batch_passes, a_batch_starts, batches_are_in_flight, batches_begin, batches_commit, instructions_complete_behind_their_batches,
-    instructions_stop_in_a_batch,
+    a_batch_passes, a_batch_starts, batches_are_in_flight, batches_begin, batches_commit,
+    instructions_complete_behind_their_batches, instructions_stop_in_a_batch,
 };
