@@ -1,0 +1,14 @@
+pub mod Ending
+pub mod Flight
+pub mod Happening
+pub mod Judging
+pub mod Later
+pub mod Lists
+pub mod Passing
+pub mod Slicing
+pub mod Started
+pub mod Starting
+pub mod Stopping
+pub mod Stuck
+pub mod Times
+pub mod Walking
