@@ -2,7 +2,8 @@
 //!
 //! It stands on the words of `vx_vector` and on the footprints of `vx_episode`. To the crate above it gives `beat_count`, which
 //! finds the number without a list, from the family and the setting that the instruction is executed with; `step_of` and
-//! `latency_of` of a unit; and the law that a footprint has nothing else that depends on the words.
+//! `latency_of` of a unit; and the law that its footprint has as many beats as groups, on the unit of its family, and neither a
+//! batch nor a stop.
 #![tactic(auto)]
 
 mod count;
