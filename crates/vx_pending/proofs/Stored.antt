@@ -25,18 +25,23 @@ use Rattle.vx_pending.proofs.Pages.{Agree, same-on, same-back, puts-same, puts-a
 
 -- ---- an access that doesn't fail
 
-by_bytes : (P : ℕ → Type 0) (n : ℕ) → P 1 → P 2 → P 4 → P 8 → is_byte_width (8 * n) ≡ true → P n
-by_bytes P n one two four eight h =
+pub by_width : (P : ℕ → Type 0) (n : ℕ) → P 8 → P 16 → P 32 → P 64 → is_byte_width n ≡ true → P n
+by_width P n one two four eight h =
     ⊎_elim
     (λ t. ⊎_elim
     (λ t. ⊎_elim
-    (λ t. let e = eqb-true (8 * n) 8 t in let is : 1 ≡ n = omega (arith, e) in subst P is one)
-    (λ t. let e = eqb-true (8 * n) 16 t in let is : 2 ≡ n = omega (arith, e) in subst P is two)
-    (or_cases (nat_eq (8 * n) 8) (nat_eq (8 * n) 16) t))
-    (λ t. let e = eqb-true (8 * n) 32 t in let is : 4 ≡ n = omega (arith, e) in subst P is four)
-    (or_cases (nat_eq (8 * n) 8 || nat_eq (8 * n) 16) (nat_eq (8 * n) 32) t))
-    (λ t. let e = eqb-true (8 * n) 64 t in let is : 8 ≡ n = omega (arith, e) in subst P is eight)
-    (or_cases (nat_eq (8 * n) 8 || nat_eq (8 * n) 16 || nat_eq (8 * n) 32) (nat_eq (8 * n) 64) h)
+    (λ t. subst P (sym (eqb-true n 8 t)) one)
+    (λ t. subst P (sym (eqb-true n 16 t)) two)
+    (or_cases (nat_eq n 8) (nat_eq n 16) t))
+    (λ t. subst P (sym (eqb-true n 32 t)) four)
+    (or_cases (nat_eq n 8 || nat_eq n 16) (nat_eq n 32) t))
+    (λ t. subst P (sym (eqb-true n 64 t)) eight)
+    (or_cases (nat_eq n 8 || nat_eq n 16 || nat_eq n 32) (nat_eq n 64) h)
+
+by_bytes : (P : ℕ → Type 0) (n : ℕ) → P 1 → P 2 → P 4 → P 8 → is_byte_width (8 * n) ≡ true → P n
+by_bytes P n one two four eight h =
+    let whole : 8 * n / 8 ≡ n = omega arith in
+    subst P whole (by_width (λ w. P (w / 8)) (8 * n) one two four eight h)
 
 on-page : (address width c : ℕ) → is_byte_width (8 * width) ≡ true → address % width ≡ 0 → address ≤ c → c < address + width → page_of c ≡ page_of address
 on-page address width c h = by_bytes (λ w. address % w ≡ 0 → address ≤ c → c < address + w → c / 4096 ≡ address / 4096) width (λ e l u. omega arith) (λ e l u. omega arith) (λ e l u. omega arith) (λ e l u. omega arith) h
