@@ -3,3 +3,7 @@ pub mod Between
 pub mod Stored
 pub mod Next
 pub mod Within
+pub mod Loads
+pub mod Prefixes
+pub mod Steps
+pub mod Footprints

@@ -1,5 +1,5 @@
 -- A vector store done below an element, from a memory that differs in pending bytes alone: what differs then is pending still.
-use Rattle.std.proofs.Common.{◌≡◌, ◌⊎◌, ℕ, ◌+◌, ◌%◌, ◌<◌, ◌≤◌, Bool, true, false, not, ◌&&◌, ◌||◌, nat_eq, leb, List, [], ◌∷◌, ◌++◌, map, if◌then◌else◌, refl, sym, ap, ◌∙◌, ⊎_elim, arith}
+use Rattle.std.proofs.Common.{◌≡◌, ◌⊎◌, ℕ, ◌+◌, ◌%◌, ◌<◌, ◌≤◌, Bool, true, false, not, ◌&&◌, ◌||◌, nat_eq, leb, List, [], ◌∷◌, ◌++◌, map, if◌then◌else◌, refl, sym, ap, ◌∙◌, subst, ⊎_elim, arith}
 use Rattle.std.specs.List.{All, filter, list_any}
 use Rattle.std.specs.Prelude.{Option, Some, None, is_none}
 use Rattle.std.proofs.Math.Bool.{and-false}
@@ -27,7 +27,7 @@ use Rattle.vx_vector.specs.Accesses.{Access, Movement, access_list, accesses_bet
 use Rattle.vx_flat.specs.Checks.{misaligned, page_fault}
 use Rattle.vx_flat.specs.Memory.{number_at}
 use Rattle.vx_flat.specs.Splits.{IsWellFormed}
-use Rattle.vx_flat.specs.State.{Flat, at_element}
+use Rattle.vx_flat.specs.State.{Flat, at_element, completed}
 use Rattle.vx_flat.specs.Step.{upcoming, is_legal, is_legal_as, is_executed, word_at_pc}
 use Rattle.vx_flat.specs.Transfers.{Direction, Transfer, Failure, transfer, want_of, failure_of, failure_or, first_failure, below_done}
 use Rattle.vx_flat.specs.Transfers.Direction.{Storing}
@@ -202,12 +202,20 @@ module _ (L : Laws) (s : Flat) (m : Memory) (w : IsWellFormed s) (alike : AreAli
     };
   }
 
+  pub below-alike : s.v.vstart ≤ k → first_failure Storing s.memory first ≡ None → StandsFor (below_done t k (with_memory m s)) (below_done t k s)
+  below-alike start good =
+      subst (λ u. StandsFor u (below_done t k s)) (sym shown-is)
+      (subst (λ u. StandsFor (with_memory shown_memory there) u) (sym there-is) (within-alike start good))
+
   -- where all elements are done, no byte differs
-  pub all-agree : rest ≡ [] → (c : ℕ) → Agree shown_memory memory c
+  all-agree : rest ≡ [] → (c : ℕ) → Agree shown_memory memory c
   all-agree none c =
       by-spans c (list_any (is_in c) (good_spans s.memory first)) (list_any (is_in c) (good_spans s.memory rest)) (pending-here c)
       (stored-there s.v.vlen s.v.words s.memory first m s.memory c (wide 0 k) alike.pages)
       (ap (λ l. list_any (is_in c) (good_spans s.memory l)) none)
 
-  pub same-pages : HaveSamePages shown_memory memory
-  same-pages = same-both
+  pub completed-alike : rest ≡ [] → StandsFor (completed (below_done t k (with_memory m s))) (completed (below_done t k s))
+  completed-alike none =
+      subst (λ u. StandsFor (completed u) (completed (below_done t k s))) (sym shown-is)
+      (subst (λ u. StandsFor (completed (with_memory shown_memory there)) (completed u)) (sym there-is)
+      (record { is = refl; alike = record { pages = same-both; bytes = λ c p. all-agree none c } }))

@@ -1,6 +1,6 @@
 -- Memories that differ from a flat state's in its pending bytes alone: a store that was cut off may have written those, and the next
 -- instruction writes them again before anything reads them. This project's own.
-use Rattle.std.specs.Prelude.{◌≡◌, ℕ, Bool, true, false, List, map, length}
+use Rattle.std.specs.Prelude.{◌≡◌, ℕ, Bool, true, false, List, map, length, Option, Some, None}
 use Rattle.vx_decode.specs.declared.instr.Instr.{Instr}
 use Rattle.vx_flat.specs.Memory.{byte_at}
 use Rattle.vx_flat.specs.Outcome.{Outcome}
@@ -41,6 +41,12 @@ OutcomesAlike (Next u) (Next t) = StandsFor u t
 OutcomesAlike (Exited a) (Exited b) = a ≡ b
 OutcomesAlike (Faulted f u) (Faulted g t) = (f ≡ g) × StandsFor u t
 OutcomesAlike shown outcome = ⊥
+
+-- two states within an instruction, where there are some, are the same but for pending bytes
+abbrev pub PrefixesAlike : (shown prefix : Option Flat) → Type 0
+PrefixesAlike None None = Unit {0}
+PrefixesAlike (Some u) (Some t) = StandsFor u t
+PrefixesAlike shown prefix = ⊥
 
 -- an instruction of a class writes memory
 abbrev pub writes_memory : Class → Bool
