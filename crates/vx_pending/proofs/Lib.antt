@@ -7,3 +7,4 @@ pub mod Loads
 pub mod Prefixes
 pub mod Steps
 pub mod Footprints
+pub mod Outcomes

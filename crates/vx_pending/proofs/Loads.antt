@@ -11,7 +11,7 @@ use Rattle.vx_flat.specs.Memory.{number_at}
 use Rattle.vx_flat.specs.State.{Flat}
 use Rattle.vx_flat.specs.Transfers.{Direction, Failure, access_done, accesses_done, failure_of, failure_or, first_failure}
 use Rattle.vx_flat.specs.Transfers.Direction.{Loading}
-use Rattle.vx_pending.specs.Alike.{HaveSamePages, AreAlike, StandsFor, with_memory}
+use Rattle.vx_pending.specs.Alike.{HaveSamePages, StandsFor, StandsExactlyFor, with_memory}
 use Rattle.vx_pending.proofs.Between.{between_all, all-in-parts}
 use Rattle.vx_pending.proofs.Pages.{Agree, all-bytes-alike}
 
@@ -27,8 +27,11 @@ loads-alike m (a ∷ l) s h =
     ∙ loads-alike m l (access_done Loading a s) h
 
 -- a state with a memory of which no byte differs
-pub stands : (m : Memory) (t : Flat) → HaveSamePages m t.memory → ((c : ℕ) → Agree m t.memory c) → StandsFor (with_memory m t) t
-stands m t same h = record { is = refl; alike = record { pages = same; bytes = λ c p. h c } }
+pub exactly : (m : Memory) (t : Flat) → HaveSamePages m t.memory → ((c : ℕ) → Agree m t.memory c) → StandsExactlyFor (with_memory m t) t
+exactly m t same h = record { is = refl; pages = same; bytes = h }
+
+pub stands : (u t : Flat) → StandsExactlyFor u t → StandsFor u t
+stands u t h = record { is = h.is; alike = record { pages = h.pages; bytes = λ c p. h.bytes c } }
 
 -- ---- the first access that fails
 

@@ -20,7 +20,7 @@ use Rattle.vx_flat.specs.Transfers.Direction.{Loading, Storing}
 use Rattle.vx_flat.specs.declared.upcoming.Upcoming.{Upcoming}
 use Rattle.vx_flat.specs.declared.upcoming.Upcoming.TheVariants.{Denied, Illegal, Instruction}
 use Rattle.vx_pending.specs.Alike.{HaveSamePages, AreAlike, StandsFor, PrefixesAlike, with_memory, writes_memory, writes_next, is_at_store}
-use Rattle.vx_pending.proofs.Loads.{loads-memory, loads-alike, stands}
+use Rattle.vx_pending.proofs.Loads.{loads-memory, loads-alike, exactly, stands}
 use Rattle.vx_pending.proofs.Next.{Laws, upcoming-alike, none-pending}
 use Rattle.vx_pending.proofs.Pages.{Agree, permits-alike}
 use Rattle.vx_pending.proofs.Stored.{is-none}
@@ -54,9 +54,9 @@ module _ (L : Laws) (s : Flat) (m : Memory) (w : IsWellFormed s) (alike : AreAli
       let l = accesses_between (transfer Loading a e s i).movement 0 k in
       let agree = quiet s m alike i h (VectorLoad a e) q refl in
       subst (λ u. StandsFor (at_element k u) (below_done (transfer Loading a e s i) k s)) (sym (loads-alike m l s agree))
-      (stands m (below_done (transfer Loading a e s i) k s)
+      (stands (with_memory m (below_done (transfer Loading a e s i) k s)) (below_done (transfer Loading a e s i) k s) (exactly m (below_done (transfer Loading a e s i) k s)
       (subst (λ x. HaveSamePages m x) (sym (loads-memory l s)) alike.pages)
-      (λ c. subst (λ x. Agree m x c) (sym (loads-memory l s)) (agree c)))
+      (λ c. subst (λ x. Agree m x c) (sym (loads-memory l s)) (agree c))))
 
   prefix-as : (i : Instr) → upcoming s ≡ Instruction i → (c : Class) → class_of i.op ≡ c → PrefixesAlike (option_and_then (λ (t : Transfer). prefix_of t k (with_memory m s)) (transfer_as c (with_memory m s) i)) (option_and_then (λ (t : Transfer). prefix_of t k s) (transfer_as c s i))
   prefix-as i h (VectorLoad a e) q = prefix-of-alike (transfer Loading a e s i) (λ start good. load-within a e i h q)

@@ -45,8 +45,8 @@ use Rattle.vx_flat.specs.declared.effect.Effect.TheVariants as effects
 use Rattle.vx_flat.specs.declared.upcoming.Upcoming.{Upcoming}
 use Rattle.vx_flat.specs.declared.upcoming.Upcoming.TheVariants.{Denied, Illegal, Instruction}
 use Rattle.vx_episode.specs.Show.{is_in, is_pending, spans_as, span_unless}
-use Rattle.vx_pending.specs.Alike.{HaveSamePages, AreAlike, StandsFor, OutcomesAlike, with_memory}
-use Rattle.vx_pending.proofs.Loads.{loads-memory, loads-alike, stands, failure-start, failure-first}
+use Rattle.vx_pending.specs.Alike.{HaveSamePages, AreAlike, StandsFor, StandsExactlyFor, OutcomesAlike, with_memory}
+use Rattle.vx_pending.proofs.Loads.{loads-memory, loads-alike, exactly, stands, failure-start, failure-first}
 use Rattle.vx_pending.proofs.Next.{Laws, upcoming-alike, cause-alike, pending-is, scalar-wide}
 use Rattle.vx_pending.proofs.Pages.{Agree, permits-alike, all-bytes-alike}
 use Rattle.vx_pending.proofs.Prefixes.{itself, quiet}
@@ -114,14 +114,14 @@ module _ (L : Laws) (s : Flat) (m : Memory) (w : IsWellFormed s) (alike : AreAli
   permit = permits-alike m s.memory alike.pages
 
   affected-alike : ((c : ℕ) → Agree m s.memory c) → (rd : ℕ) (e : Effect) → OutcomesAlike (affected (with_memory m s) rd e) (affected s rd e)
-  affected-alike agree rd (effects.Value value pc) = stands m (record s { pc = pc; x = with_register s.x rd value }) alike.pages agree
-  affected-alike agree rd (effects.Next pc) = stands m (record s { pc = pc }) alike.pages agree
+  affected-alike agree rd (effects.Value value pc) = exactly m (record s { pc = pc; x = with_register s.x rd value }) alike.pages agree
+  affected-alike agree rd (effects.Next pc) = exactly m (record s { pc = pc }) alike.pages agree
   affected-alike agree rd (effects.Misaligned target) = (refl, me)
 
-  checked-alike : (address : ℕ) (x y : Flat) (c d : Option ℕ) → c ≡ d → (d ≡ None → StandsFor x y) → OutcomesAlike (checked c (with_memory m s) address x) (checked d s address y)
+  checked-alike : (address : ℕ) (x y : Flat) (c d : Option ℕ) → c ≡ d → (d ≡ None → StandsExactlyFor x y) → OutcomesAlike (checked c (with_memory m s) address x) (checked d s address y)
   checked-alike address x y c d e f = subst (λ c. OutcomesAlike (checked c (with_memory m s) address x) (checked d s address y)) (sym e) (by_cause d f)
     where
-      by_cause : (d : Option ℕ) → (d ≡ None → StandsFor x y) → OutcomesAlike (checked d (with_memory m s) address x) (checked d s address y)
+      by_cause : (d : Option ℕ) → (d ≡ None → StandsExactlyFor x y) → OutcomesAlike (checked d (with_memory m s) address x) (checked d s address y)
       by_cause None f = f refl
       by_cause (Some cause) f = (refl, me)
 
@@ -132,8 +132,8 @@ module _ (L : Laws) (s : Flat) (m : Memory) (w : IsWellFormed s) (alike : AreAli
       let number = ap from_little_endian (all-bytes-alike m s.memory agree width address) in
       checked-alike address _ _ (cause_of m Load address width) (cause_of s.memory Load address width) (cause-alike L s m w alike Load address width)
       (λ e.
-      subst (λ n. StandsFor (record s { memory = m; pc = following s; x = with_register s.x i.rd (loaded i.op n) }) (record s { pc = following s; x = with_register s.x i.rd (loaded i.op (number_at s.memory address width)) })) (sym number)
-      (stands m (record s { pc = following s; x = with_register s.x i.rd (loaded i.op (number_at s.memory address width)) }) alike.pages agree))
+      subst (λ n. StandsExactlyFor (record s { memory = m; pc = following s; x = with_register s.x i.rd (loaded i.op n) }) (record s { pc = following s; x = with_register s.x i.rd (loaded i.op (number_at s.memory address width)) })) (sym number)
+      (exactly m (record s { pc = following s; x = with_register s.x i.rd (loaded i.op (number_at s.memory address width)) }) alike.pages agree))
 
   -- what a scalar store that doesn't fail leaves pending of is written
   written-alike : (i : Instr) → upcoming s ≡ Instruction i → class_of i.op ≡ class.Store → cause_of s.memory Store (access_address i s.x) (access_width i.op) ≡ None → (value c : ℕ) → Agree (put_number m (access_address i s.x) (access_width i.op) value) (put_number s.memory (access_address i s.x) (access_width i.op) value) c
@@ -159,24 +159,25 @@ module _ (L : Laws) (s : Flat) (m : Memory) (w : IsWellFormed s) (alike : AreAli
       checked-alike address _ _ (cause_of m Store address width) (cause_of s.memory Store address width) (cause-alike L s m w alike Store address width)
       (λ e. record {
         is = refl;
-        alike = record { pages = numbers-same m s.memory address width value alike.pages; bytes = λ c p. written-alike i h q e value c };
+        pages = numbers-same m s.memory address width value alike.pages;
+        bytes = λ c. written-alike i h q e value c;
       })
 
   control-alike : ((c : ℕ) → Agree m s.memory c) → (i : Instr) (o : Option Exchange) → OutcomesAlike (control_by o (with_memory m s) i) (control_by o s i)
   control-alike agree i None = (refl, me)
-  control-alike agree i (Some e) = stands m (record s { pc = following s; x = with_register s.x i.rd e.read; v = e.state }) alike.pages agree
+  control-alike agree i (Some e) = exactly m (record s { pc = following s; x = with_register s.x i.rd e.read; v = e.state }) alike.pages agree
 
   calculate-alike : ((c : ℕ) → Agree m s.memory c) → (i : Instr) (o : Option Reading) → OutcomesAlike (calculate_by o (with_memory m s) i) (calculate_by o s i)
   calculate-alike agree i None = (refl, me)
-  calculate-alike agree i (Some r) = record { is = refl; alike = record { pages = alike.pages; bytes = λ c p. agree c } }
+  calculate-alike agree i (Some r) = record { is = refl; pages = alike.pages; bytes = agree }
 
   ecall-alike : ((c : ℕ) → Agree m s.memory c) → OutcomesAlike (ecall (with_memory m s)) (ecall s)
   ecall-alike agree =
       let number = register s 17 in
       either (nat_eq number 93) (Exited (signed 64 (register s 10))) (Next (answered (with_memory m s) (service (with_memory m s) number))) (Exited (signed 64 (register s 10))) (Next (answered s (service s number)))
       refl
-      (subst (λ a. StandsFor (answered (with_memory m s) a) (answered s (service s number))) (sym (service-alike s m permit agree number))
-      (record { is = refl; alike = record { pages = alike.pages; bytes = λ c p. agree c } }))
+      (subst (λ a. StandsExactlyFor (answered (with_memory m s) a) (answered s (service s number))) (sym (service-alike s m permit agree number))
+      (record { is = refl; pages = alike.pages; bytes = agree }))
 
   -- ---- vector loads
 
@@ -188,11 +189,11 @@ module _ (L : Laws) (s : Flat) (m : Memory) (w : IsWellFormed s) (alike : AreAli
     memory-is k = subst (λ d. (below_done (record t { direction = d }) k s).memory ≡ s.memory) (sym loads) (loads-memory (accesses_between t.movement 0 k) s)
 
     -- a change of the state that leaves its memory
-    changed : (k : ℕ) (f : Flat → Flat) → ((u : Flat) → f (with_memory m u) ≡ with_memory m (f u)) → ((u : Flat) → (f u).memory ≡ u.memory) → StandsFor (f (below_done t k (with_memory m s))) (f (below_done t k s))
+    changed : (k : ℕ) (f : Flat → Flat) → ((u : Flat) → f (with_memory m u) ≡ with_memory m (f u)) → ((u : Flat) → (f u).memory ≡ u.memory) → StandsExactlyFor (f (below_done t k (with_memory m s))) (f (below_done t k s))
     changed k f apart keeps =
         let same = sym (keeps (below_done t k s) ∙ memory-is k) in
-        subst (λ u. StandsFor u (f (below_done t k s))) (sym (ap f (done-is k) ∙ apart (below_done t k s)))
-        (stands m (f (below_done t k s)) (subst (HaveSamePages m) same alike.pages) (λ c. subst (λ x. Agree m x c) same (agree c)))
+        subst (λ u. StandsExactlyFor u (f (below_done t k s))) (sym (ap f (done-is k) ∙ apart (below_done t k s)))
+        (exactly m (f (below_done t k s)) (subst (HaveSamePages m) same alike.pages) (λ c. subst (λ x. Agree m x c) same (agree c)))
 
     loaded-alike : (o : Option Failure) → OutcomesAlike (transferred_by t (with_memory m s) o) (transferred_by t s o)
     loaded-alike None = changed (movement_count t.movement) completed (λ u. refl) (λ u. refl)
@@ -202,7 +203,7 @@ module _ (L : Laws) (s : Flat) (m : Memory) (w : IsWellFormed s) (alike : AreAli
         (Next (completed (trimmed k (below_done t k (with_memory m s))))) (faulted (below_done t k (with_memory m s)) f.cause f.access.address)
         (Next (completed (trimmed k (below_done t k s)))) (faulted (below_done t k s) f.cause f.access.address)
         (changed k (λ u. completed (trimmed k u)) (λ u. refl) (λ u. refl))
-        (refl, changed k (λ u. u) (λ u. refl) (λ u. refl))
+        (refl, stands (below_done t k (with_memory m s)) (below_done t k s) (changed k (λ u. u) (λ u. refl) (λ u. refl)))
 
   -- ---- vector stores
 
@@ -250,7 +251,7 @@ module _ (L : Laws) (s : Flat) (m : Memory) (w : IsWellFormed s) (alike : AreAli
   as-class i h class.Ecall q = ecall-alike (quiet s m alike i h class.Ecall q refl)
   as-class i h class.Ebreak q = (refl, me)
   as-class i h class.Csr q = control-alike (quiet s m alike i h class.Csr q refl) i (exchange_at s i)
-  as-class i h class.Set q = record { is = refl; alike = record { pages = alike.pages; bytes = λ c p. quiet s m alike i h class.Set q refl c } }
+  as-class i h class.Set q = record { is = refl; pages = alike.pages; bytes = quiet s m alike i h class.Set q refl }
   as-class i h (class.VectorArithmetic family) q = calculate-alike (quiet s m alike i h (class.VectorArithmetic family) q refl) i (reading_at s i)
   as-class i h (VectorLoad a e) q = transferred-alike (transfer Loading a e s i) (λ o p. loaded-alike (quiet s m alike i h (VectorLoad a e) q refl) (transfer Loading a e s i) refl o)
   as-class i h (VectorStore a e) q = transferred-alike (transfer Storing a e s i) (stored-alike a e i h q)

@@ -35,7 +35,7 @@ use Rattle.vx_flat.specs.Vectors.{setting_at}
 use Rattle.vx_flat.specs.declared.upcoming.Upcoming.{Upcoming}
 use Rattle.vx_flat.specs.declared.upcoming.Upcoming.TheVariants.{Instruction}
 use Rattle.vx_episode.specs.Show.{is_in, is_pending, spans_as, spans_of, Span}
-use Rattle.vx_pending.specs.Alike.{HaveSamePages, AreAlike, StandsFor, with_memory}
+use Rattle.vx_pending.specs.Alike.{HaveSamePages, AreAlike, StandsFor, StandsExactlyFor, with_memory}
 use Rattle.vx_pending.proofs.Between.{moved_alike, all-in-parts, rest-is}
 use Rattle.vx_pending.proofs.Next.{Laws, IsNext, next-parts, next-is, all-wide, pending-is, word-is}
 use Rattle.vx_pending.proofs.Pages.{Agree, permits-alike, same-on, same-back}
@@ -214,8 +214,8 @@ module _ (L : Laws) (s : Flat) (m : Memory) (w : IsWellFormed s) (alike : AreAli
       (stored-there s.v.vlen s.v.words s.memory first m s.memory c (wide 0 k) alike.pages)
       (ap (λ l. list_any (is_in c) (good_spans s.memory l)) none)
 
-  pub completed-alike : rest ≡ [] → StandsFor (completed (below_done t k (with_memory m s))) (completed (below_done t k s))
+  pub completed-alike : rest ≡ [] → StandsExactlyFor (completed (below_done t k (with_memory m s))) (completed (below_done t k s))
   completed-alike none =
-      subst (λ u. StandsFor (completed u) (completed (below_done t k s))) (sym shown-is)
-      (subst (λ u. StandsFor (completed (with_memory shown_memory there)) (completed u)) (sym there-is)
-      (record { is = refl; alike = record { pages = same-both; bytes = λ c p. all-agree none c } }))
+      subst (λ u. StandsExactlyFor (completed u) (completed (below_done t k s))) (sym shown-is)
+      (subst (λ u. StandsExactlyFor (completed (with_memory shown_memory there)) (completed u)) (sym there-is)
+      (record { is = refl; pages = same-both; bytes = all-agree none }))

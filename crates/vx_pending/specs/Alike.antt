@@ -35,9 +35,15 @@ pub record StandsFor (shown s : Flat) : Type 0 where
   pub is : shown ≡ with_memory shown.memory s
   pub alike : AreAlike s shown.memory
 
--- the same comes of two steps, but for pending bytes
+-- a state stands for another, and no byte differs
+pub record StandsExactlyFor (shown s : Flat) : Type 0 where
+  pub is : shown ≡ with_memory shown.memory s
+  pub pages : HaveSamePages shown.memory s.memory
+  pub bytes : (address : ℕ) → byte_at shown.memory address ≡ byte_at s.memory address
+
+-- the same comes of two steps: where the instruction completes, no byte differs any more; where it faults, pending ones may still
 abbrev pub OutcomesAlike : (shown outcome : Outcome) → Type 0
-OutcomesAlike (Next u) (Next t) = StandsFor u t
+OutcomesAlike (Next u) (Next t) = StandsExactlyFor u t
 OutcomesAlike (Exited a) (Exited b) = a ≡ b
 OutcomesAlike (Faulted f u) (Faulted g t) = (f ≡ g) × StandsFor u t
 OutcomesAlike shown outcome = ⊥

@@ -8,4 +8,7 @@
 
 mod laws;
 
-pub use laws::a_state_is_alike;
+pub use laws::{
+    footprints_are_the_same, nothing_else_differs, pending_bytes_are_not_read, prefixes_are_alike,
+    steps_are_alike,
+};
