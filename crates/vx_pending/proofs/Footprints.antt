@@ -1,5 +1,5 @@
 -- What timing sees of an instruction is the same from a memory that differs in pending bytes alone.
-use Rattle.std.proofs.Common.{◌≡◌, ℕ, Bool, true, false, not, ◌&&◌, if◌then◌else◌, refl, sym, ap, ◌∙◌, subst}
+use Rattle.std.proofs.Common.{◌≡◌, Bool, true, false, not, ◌&&◌, if◌then◌else◌, refl, ap, ◌∙◌}
 use Rattle.std.specs.Prelude.{Option, Some, None}
 use Rattle.std.proofs.lemmas.Bool.{false≢true}
 use Rattle.vx_base.specs.declared.machine.Want.TheVariants.{Fetch}
@@ -24,7 +24,7 @@ use Rattle.vx_flat.specs.declared.effect.Effect.{Effect}
 use Rattle.vx_flat.specs.declared.effect.Effect.TheVariants as effects
 use Rattle.vx_flat.specs.declared.upcoming.Upcoming.{Upcoming}
 use Rattle.vx_flat.specs.declared.upcoming.Upcoming.TheVariants.{Denied, Illegal, Instruction}
-use Rattle.vx_episode.specs.Footprint.{Footprint, stopping, ended_by, halting, jumping, calculating_by, footprint_as, footprint_of, needs_vectors, footprint_with, footprint_found, footprint}
+use Rattle.vx_episode.specs.Footprint.{stopping, ended_by, halting, jumping, calculating_by, footprint_as, footprint_of, needs_vectors, footprint_with, footprint_found, footprint}
 use Rattle.vx_episode.specs.Organisation.{Organisation}
 use Rattle.vx_episode.specs.declared.ended.Ended.TheVariants as ended
 use Rattle.vx_pending.specs.Alike.{AreAlike, OutcomesAlike, with_memory}

@@ -1,5 +1,5 @@
 -- Loads and failures: from a memory of which no byte differs, a load gives the same; and where the first access that fails lies.
-use Rattle.std.proofs.Common.{◌≡◌, ℕ, ◌+◌, ◌%◌, ◌<◌, ◌≤◌, Bool, true, false, List, [], ◌∷◌, ◌++◌, refl, sym, ap, ◌∙◌, subst, arith}
+use Rattle.std.proofs.Common.{◌≡◌, ℕ, ◌<◌, ◌≤◌, List, [], ◌∷◌, ◌++◌, refl, sym, ap, ◌∙◌, subst, arith}
 use Rattle.std.specs.List.{All}
 use Rattle.std.specs.Prelude.{Option, Some, None}
 use Rattle.std.proofs.lemmas.List.Elements.{All-head, All-tail}
@@ -7,7 +7,6 @@ use Rattle.std.proofs.lemmas.Option.{none-some, same_Some}
 use Rattle.vx_base.specs.Numbers.{from_little_endian}
 use Rattle.vx_image.specs.Pages.{Memory}
 use Rattle.vx_vector.specs.Accesses.{Access, Movement, access_list, accesses_between, movement_count, with_loaded}
-use Rattle.vx_flat.specs.Memory.{number_at}
 use Rattle.vx_flat.specs.State.{Flat}
 use Rattle.vx_flat.specs.Transfers.{Direction, Failure, access_done, accesses_done, failure_of, failure_or, first_failure}
 use Rattle.vx_flat.specs.Transfers.Direction.{Loading}

@@ -1,5 +1,5 @@
 -- What comes next is the same from a memory that differs in pending bytes alone, and so are the pending bytes.
-use Rattle.std.proofs.Common.{◌≡◌, ◌⊎◌, ℕ, ◌+◌, ◌*◌, ◌/◌, ◌%◌, ◌^◌, ◌<◌, ◌≤◌, Bool, true, false, not, ◌&&◌, ◌||◌, nat_eq, List, length, if◌then◌else◌, refl, sym, ap, ◌∙◌, subst, inr, arith}
+use Rattle.std.proofs.Common.{◌≡◌, ℕ, ◌+◌, ◌*◌, ◌/◌, ◌%◌, ◌<◌, ◌≤◌, Bool, true, false, not, ◌&&◌, ◌||◌, nat_eq, length, if◌then◌else◌, refl, sym, ap, ◌∙◌, inr, arith}
 use Rattle.std.specs.List.{All, filter, list_any}
 use Rattle.std.specs.Prelude.{Option, Some, None, is_none, map}
 use Rattle.std.proofs.lemmas.Bool.{false≢true, true≢false, and_parts, not-true}
@@ -23,24 +23,24 @@ use Rattle.vx_rows.specs.declared.row.Class.TheVariants.{VectorStore}
 use Rattle.vx_rows.specs.declared.row.Eew.{Eew}
 use Rattle.vx_vstate.specs.Registers.{words_of_all, is_byte_width}
 use Rattle.vx_vstate.specs.State.{IsVectorState, IsSetting}
-use Rattle.vx_vector.specs.Accesses.{Access, Movement, access_bits, access_list, access_of, accesses_between}
+use Rattle.vx_vector.specs.Accesses.{Access, Movement, access_bits, access_list, accesses_between}
 use Rattle.vx_vector.specs.Movements.{IsLegalMovement, IsSoundMovement}
 use Rattle.vx_flat.specs.Access.{access_address, access_width}
 use Rattle.vx_flat.specs.Checks.{cause_of, misaligned, page_fault}
-use Rattle.vx_flat.specs.Memory.{byte_at, number_at}
+use Rattle.vx_flat.specs.Memory.{number_at}
 use Rattle.vx_flat.specs.Splits.{IsWellFormed}
 use Rattle.vx_flat.specs.State.{Flat}
 use Rattle.vx_flat.specs.Step.{upcoming, meaning, is_legal, is_legal_as, is_executed, word_at_pc}
-use Rattle.vx_flat.specs.Transfers.{transfer, failure_of, want_of}
+use Rattle.vx_flat.specs.Transfers.{transfer}
 use Rattle.vx_flat.specs.Transfers.Direction.{Storing}
 use Rattle.vx_flat.specs.Vectors.{setting_at}
 use Rattle.vx_flat.specs.declared.upcoming.Upcoming.{Upcoming}
 use Rattle.vx_flat.specs.declared.upcoming.Upcoming.TheVariants.{Denied, Illegal, Instruction}
-use Rattle.vx_episode.specs.Show.{Span, is_in, is_pending, spans_of, spans_as, span_unless, scalar_span}
-use Rattle.vx_pending.specs.Alike.{HaveSamePages, AreAlike, with_memory, writes_memory, writes_next, is_at_store}
+use Rattle.vx_episode.specs.Show.{is_in, is_pending, spans_of, spans_as, span_unless}
+use Rattle.vx_pending.specs.Alike.{AreAlike, with_memory, writes_memory, writes_next, is_at_store}
 use Rattle.vx_pending.proofs.Between.{between_all}
 use Rattle.vx_pending.proofs.Pages.{Agree, permits-alike, bytes-alike}
-use Rattle.vx_pending.proofs.Stored.{Wide, IsPassed, by_width, passed, in-span, good_spans, spans-permit, permits-page, permitted-below}
+use Rattle.vx_pending.proofs.Stored.{Wide, IsPassed, by_width, passed, in-span, spans-permit, permits-page, permitted-below}
 
 -- what the crates below say of instructions and movements
 pub record Laws : Type 0 where

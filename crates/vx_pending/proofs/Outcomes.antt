@@ -1,6 +1,6 @@
 -- What one of two alike outcomes is tells what the other is.
 use Rattle.std.proofs.Common.{◌≡◌, Bool, true, false, ℤ, refl, sym, ap, ◌∙◌, subst}
-use Rattle.std.proofs.lemmas.Bool.{false≢true, true≢false}
+use Rattle.std.proofs.lemmas.Bool.{false≢true}
 use Rattle.vx_base.specs.declared.machine.Fault.{Fault}
 use Rattle.vx_flat.specs.Outcome.{Outcome}
 use Rattle.vx_flat.specs.Outcome.Outcome.{Next, Exited, Faulted}

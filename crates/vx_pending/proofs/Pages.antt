@@ -1,7 +1,7 @@
 -- Two memories with the same pages: which accesses they let through, and the bytes that are put into both.
-use Rattle.std.proofs.Common.{◌≡◌, ◌≢◌, ℕ, zero, suc, ◌+◌, ◌/◌, ◌%◌, ◌^◌, ◌<◌, ◌≤◌, Bool, true, false, ◌&&◌, ◌||◌, nat_eq, ltb, List, [], ◌∷◌, length, map, if◌then◌else◌, refl, sym, ap, ◌∙◌, subst, inl, inr, ⊎_elim, arith}
+use Rattle.std.proofs.Common.{◌≡◌, ◌≢◌, ℕ, zero, suc, ◌+◌, ◌/◌, ◌^◌, ◌<◌, ◌≤◌, Bool, true, false, ◌&&◌, nat_eq, ltb, List, [], ◌∷◌, length, map, if◌then◌else◌, refl, sym, ap, ◌∙◌, subst, ⊎_elim, arith}
 use Rattle.std.specs.Option.{option_map_or}
-use Rattle.std.specs.Prelude.{Option, Some, None, slice_index, slice_set}
+use Rattle.std.specs.Prelude.{Option, Some, slice_index, slice_set}
 use Rattle.std.proofs.Math.Nat.{mod-eq_of_lt}
 use Rattle.std.proofs.lemmas.Bool.{cases_eq, cases_lt, eqb-true}
 use Rattle.std.proofs.lemmas.Bool.Decides.{nat_tests}
@@ -12,7 +12,7 @@ use Rattle.vx_base.specs.declared.machine.Want.{Want}
 use Rattle.vx_base.specs.declared.perm.PageEntry.{PageEntry}
 use Rattle.vx_image.specs.Images.{entry_of_page}
 use Rattle.vx_image.specs.Pages.{MappedPage, Memory, page_numbered, page_of, is_canonical, permits}
-use Rattle.vx_flat.specs.Memory.{offset_of, byte_at, bytes_at, next_address, with_byte, put_byte, put_bytes, put_number}
+use Rattle.vx_flat.specs.Memory.{offset_of, byte_at, bytes_at, next_address, with_byte, put_byte, put_bytes}
 use Rattle.vx_pending.specs.Alike.{HaveSamePages}
 
 abbrev pub extent : MappedPage → ℕ

@@ -15,11 +15,11 @@ use Rattle.vx_flat.specs.Prefix.{transfer_as, transfer_next, prefix_of, prefix_a
 use Rattle.vx_flat.specs.Splits.{IsWellFormed}
 use Rattle.vx_flat.specs.State.{Flat, at_element}
 use Rattle.vx_flat.specs.Step.{upcoming}
-use Rattle.vx_flat.specs.Transfers.{Direction, Transfer, Failure, transfer, first_failure, below_done, accesses_done}
+use Rattle.vx_flat.specs.Transfers.{Transfer, Failure, transfer, first_failure, below_done}
 use Rattle.vx_flat.specs.Transfers.Direction.{Loading, Storing}
 use Rattle.vx_flat.specs.declared.upcoming.Upcoming.{Upcoming}
 use Rattle.vx_flat.specs.declared.upcoming.Upcoming.TheVariants.{Denied, Illegal, Instruction}
-use Rattle.vx_pending.specs.Alike.{HaveSamePages, AreAlike, StandsFor, PrefixesAlike, with_memory, writes_memory, writes_next, is_at_store}
+use Rattle.vx_pending.specs.Alike.{HaveSamePages, AreAlike, StandsFor, PrefixesAlike, with_memory, writes_memory, writes_next}
 use Rattle.vx_pending.proofs.Loads.{loads-memory, loads-alike, exactly, stands}
 use Rattle.vx_pending.proofs.Next.{Laws, upcoming-alike, none-pending}
 use Rattle.vx_pending.proofs.Pages.{Agree, permits-alike}

@@ -1,8 +1,8 @@
 -- The step from a memory that differs in pending bytes alone.
-use Rattle.std.proofs.Common.{◌≡◌, ◌⊎◌, ℕ, ◌+◌, ◌-◌, ◌^◌, ◌<◌, ◌≤◌, Bool, true, false, not, ◌&&◌, ◌||◌, nat_eq, leb, ltb, List, [], length, ◌++◌, if◌then◌else◌, refl, sym, ap, ◌∙◌, subst, arith, zero, suc}
+use Rattle.std.proofs.Common.{◌≡◌, ℕ, ◌+◌, ◌-◌, ◌^◌, Bool, true, false, not, ◌&&◌, ◌||◌, nat_eq, leb, ltb, [], length, if◌then◌else◌, refl, sym, ap, ◌∙◌, subst, arith, zero, suc}
 use Rattle.std.specs.List.{list_any, range_with_len, flat_map}
-use Rattle.std.specs.Prelude.{Option, Some, None, is_none, ℤ, pos, neg_ℤ}
-use Rattle.std.proofs.lemmas.Bool.{false≢true, true≢false, and_parts}
+use Rattle.std.specs.Prelude.{Option, Some, None, pos, neg_ℤ}
+use Rattle.std.proofs.lemmas.Bool.{true≢false}
 use Rattle.vx_base.specs.Numbers.{from_little_endian, signed}
 use Rattle.vx_base.specs.declared.machine.Want.{Want}
 use Rattle.vx_base.specs.declared.machine.Want.TheVariants.{Load, Store}
@@ -29,15 +29,15 @@ use Rattle.vx_vector.specs.Reading.{Reading}
 use Rattle.vx_flat.specs.Access.{access_address, access_width, loaded}
 use Rattle.vx_flat.specs.Checks.{cause_of, checked}
 use Rattle.vx_flat.specs.Control.{Exchange}
-use Rattle.vx_flat.specs.Memory.{all_permit, bytes_at, next_address, number_at, put_number}
+use Rattle.vx_flat.specs.Memory.{all_permit, next_address, number_at, put_number}
 use Rattle.vx_flat.specs.Outcome.{Outcome, faulted}
-use Rattle.vx_flat.specs.Outcome.Outcome.{Next, Exited, Faulted}
+use Rattle.vx_flat.specs.Outcome.Outcome.{Next, Exited}
 use Rattle.vx_flat.specs.Scalar.{effect}
 use Rattle.vx_flat.specs.Service.{answers, service, answered, output_limit}
 use Rattle.vx_flat.specs.Splits.{IsWellFormed}
 use Rattle.vx_flat.specs.State.{Flat, register, with_register, following, at_element, completed}
 use Rattle.vx_flat.specs.Step.{upcoming, exchange_at, affected, load, store, ecall, control_by, calculate_by, performed, performed_as, step}
-use Rattle.vx_flat.specs.Transfers.{Transfer, Failure, transfer, transferred, transferred_by, first_failure, below_done, trimmed, is_fault_only_first, accesses_done}
+use Rattle.vx_flat.specs.Transfers.{Transfer, Failure, transfer, transferred, transferred_by, first_failure, below_done, trimmed, is_fault_only_first}
 use Rattle.vx_flat.specs.Transfers.Direction.{Loading, Storing}
 use Rattle.vx_flat.specs.Vectors.{reading_at}
 use Rattle.vx_flat.specs.declared.effect.Effect.{Effect}
@@ -50,7 +50,7 @@ use Rattle.vx_pending.proofs.Loads.{loads-memory, loads-alike, exactly, stands, 
 use Rattle.vx_pending.proofs.Next.{Laws, upcoming-alike, cause-alike, pending-is, scalar-wide}
 use Rattle.vx_pending.proofs.Pages.{Agree, permits-alike, all-bytes-alike}
 use Rattle.vx_pending.proofs.Prefixes.{itself, quiet}
-use Rattle.vx_pending.proofs.Stored.{IsPassed, passed, in-span, numbers-same, number-agree, number-there}
+use Rattle.vx_pending.proofs.Stored.{passed, in-span, numbers-same, number-agree, number-there}
 use Rattle.vx_pending.proofs.Within.{below-alike, completed-alike, failures-alike}
 
 -- ---- no store loads only as far as the first fault
@@ -99,11 +99,11 @@ service-alike s m permit agree number =
     let readable = permit-alike m s.memory permit count address Load in
     let bytes = all-bytes-alike m s.memory agree count address in
     λ j. if nat_eq number 64 then
-        (if not (nat_eq (register s 10) 1 || nat_eq (register s 10) 2) then answers (neg_ℤ (pos 9))
-        else if nat_eq count 0 then answers (pos 0)
-        else if not (leb (address + count) (2 ^ 64) && readable j) then answers (neg_ℤ (pos 14))
-        else if ltb output_limit (length s.output + count) then answers (neg_ℤ (pos 28))
-        else record { value = pos count; written = bytes j })
+    (if not (nat_eq (register s 10) 1 || nat_eq (register s 10) 2) then answers (neg_ℤ (pos 9))
+    else if nat_eq count 0 then answers (pos 0)
+    else if not (leb (address + count) (2 ^ 64) && readable j) then answers (neg_ℤ (pos 14))
+    else if ltb output_limit (length s.output + count) then answers (neg_ℤ (pos 28))
+    else record { value = pos count; written = bytes j })
     else answers (neg_ℤ (pos 38))
 
 module _ (L : Laws) (s : Flat) (m : Memory) (w : IsWellFormed s) (alike : AreAlike s m) where

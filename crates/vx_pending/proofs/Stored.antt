@@ -1,5 +1,5 @@
 -- Accesses of a store done on two memories with the same pages: what both write is the same.
-use Rattle.std.proofs.Common.{◌≡◌, ◌≢◌, ℕ, zero, suc, ◌+◌, ◌-◌, ◌*◌, ◌/◌, ◌%◌, ◌^◌, ◌<◌, ◌≤◌, Bool, true, false, not, ◌&&◌, ◌||◌, nat_eq, leb, ltb, List, [], ◌∷◌, ◌++◌, length, map, if◌then◌else◌, cond, refl, sym, ap, ◌∙◌, subst, inl, inr, ⊎_elim, arith}
+use Rattle.std.proofs.Common.{◌≡◌, ℕ, ◌+◌, ◌-◌, ◌*◌, ◌/◌, ◌%◌, ◌^◌, ◌<◌, ◌≤◌, Bool, true, false, not, ◌&&◌, ◌||◌, nat_eq, leb, ltb, List, [], ◌∷◌, map, if◌then◌else◌, cond, refl, sym, ap, ◌∙◌, subst, ⊎_elim, arith}
 use Rattle.std.specs.List.{All, filter, list_any}
 use Rattle.std.specs.Prelude.{Option, Some, None, is_none}
 use Rattle.std.specs.Option.{option_map_or}
@@ -15,7 +15,7 @@ use Rattle.vx_image.specs.Pages.{MappedPage, Memory, page_numbered, page_of, is_
 use Rattle.vx_vstate.specs.Registers.{is_byte_width}
 use Rattle.vx_vector.specs.Accesses.{Access, value_stored}
 use Rattle.vx_flat.specs.Checks.{cause_of, misaligned, page_fault}
-use Rattle.vx_flat.specs.Memory.{byte_at, put_bytes, put_number}
+use Rattle.vx_flat.specs.Memory.{byte_at, put_number}
 use Rattle.vx_flat.specs.State.{Flat}
 use Rattle.vx_flat.specs.Transfers.{access_done, accesses_done, failure_of}
 use Rattle.vx_flat.specs.Transfers.Direction.{Storing}

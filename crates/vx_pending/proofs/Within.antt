@@ -1,16 +1,16 @@
 -- A vector store done below an element, from a memory that differs in pending bytes alone: what differs then is pending still.
-use Rattle.std.proofs.Common.{◌≡◌, ◌⊎◌, ℕ, ◌+◌, ◌%◌, ◌<◌, ◌≤◌, Bool, true, false, not, ◌&&◌, ◌||◌, nat_eq, leb, List, [], ◌∷◌, ◌++◌, map, if◌then◌else◌, refl, sym, ap, ◌∙◌, subst, ⊎_elim, arith}
+use Rattle.std.proofs.Common.{◌≡◌, ℕ, ◌%◌, ◌≤◌, Bool, true, false, not, ◌&&◌, ◌||◌, nat_eq, List, [], ◌∷◌, ◌++◌, map, if◌then◌else◌, refl, sym, ap, ◌∙◌, subst}
 use Rattle.std.specs.List.{All, filter, list_any}
 use Rattle.std.specs.Prelude.{Option, Some, None, is_none}
 use Rattle.std.proofs.Math.Bool.{and-false}
-use Rattle.std.proofs.lemmas.Bool.{false≢true, true≢false, or_cases}
+use Rattle.std.proofs.lemmas.Bool.{true≢false}
 use Rattle.std.proofs.lemmas.List.Elements.{All-nil, All-cons, filter-append}
 use Rattle.std.proofs.lemmas.List.Folds.{list_any-append}
 use Rattle.std.proofs.lemmas.Option.{none-some}
 use Rattle.vx_base.specs.declared.machine.Want.{Want}
 use Rattle.vx_base.specs.declared.machine.Want.TheVariants.{Fetch, Store}
 use Rattle.vx_decode.specs.Decoded.{decoded}
-use Rattle.vx_decode.specs.Groups.{moved, indices, mask_at, meet, destinations_as, sources_as}
+use Rattle.vx_decode.specs.Groups.{indices, mask_at, meet, destinations_as, sources_as}
 use Rattle.vx_decode.specs.Legal.{some_group, needs_none, is_bad_group, is_too_long, may_write_mask, reads_first, may_meet, is_kept_apart, begins_at_first, is_high_half, is_illegal}
 use Rattle.vx_decode.specs.declared.group.Group.{Group}
 use Rattle.vx_decode.specs.declared.instr.Instr.{Instr}
@@ -23,21 +23,19 @@ use Rattle.vx_rows.specs.declared.row.Class.TheVariants.{VectorStore}
 use Rattle.vx_rows.specs.declared.row.Eew.{Eew}
 use Rattle.vx_vstate.specs.State.{SettingView}
 use Rattle.vx_vstate.specs.Vtype.{vill, sew}
-use Rattle.vx_vector.specs.Accesses.{Access, Movement, access_list, accesses_between, movement_count}
+use Rattle.vx_vector.specs.Accesses.{Access, Movement, accesses_between, movement_count}
 use Rattle.vx_flat.specs.Checks.{misaligned, page_fault}
-use Rattle.vx_flat.specs.Memory.{number_at}
 use Rattle.vx_flat.specs.Splits.{IsWellFormed}
 use Rattle.vx_flat.specs.State.{Flat, at_element, completed}
 use Rattle.vx_flat.specs.Step.{upcoming, is_legal, is_legal_as, is_executed, word_at_pc}
 use Rattle.vx_flat.specs.Transfers.{Direction, Transfer, Failure, transfer, want_of, failure_of, failure_or, first_failure, below_done}
 use Rattle.vx_flat.specs.Transfers.Direction.{Storing}
 use Rattle.vx_flat.specs.Vectors.{setting_at}
-use Rattle.vx_flat.specs.declared.upcoming.Upcoming.{Upcoming}
 use Rattle.vx_flat.specs.declared.upcoming.Upcoming.TheVariants.{Instruction}
-use Rattle.vx_episode.specs.Show.{is_in, is_pending, spans_as, spans_of, Span}
+use Rattle.vx_episode.specs.Show.{is_in, is_pending, spans_as, Span}
 use Rattle.vx_pending.specs.Alike.{HaveSamePages, AreAlike, StandsFor, StandsExactlyFor, with_memory}
 use Rattle.vx_pending.proofs.Between.{moved_alike, all-in-parts, rest-is}
-use Rattle.vx_pending.proofs.Next.{Laws, IsNext, next-parts, next-is, all-wide, pending-is, word-is}
+use Rattle.vx_pending.proofs.Next.{Laws, next-parts, next-is, all-wide, pending-is, word-is}
 use Rattle.vx_pending.proofs.Pages.{Agree, permits-alike, same-on, same-back}
 use Rattle.vx_pending.proofs.Stored.{Wide, good_spans, stored, stored-same, stored-agree, stored-there, stored-leave, stores-are}
 
@@ -196,9 +194,9 @@ module _ (L : Laws) (s : Flat) (m : Memory) (w : IsWellFormed s) (alike : AreAli
     alike = record {
       pages = same-both;
       bytes = λ c p.
-      by-spans c (list_any (is_in c) (good_spans s.memory first)) (list_any (is_in c) (good_spans s.memory rest)) (pending-here c)
-      (stored-there s.v.vlen s.v.words s.memory first m s.memory c (wide 0 k) alike.pages)
-      (sym (pending-there start good c) ∙ p);
+          by-spans c (list_any (is_in c) (good_spans s.memory first)) (list_any (is_in c) (good_spans s.memory rest)) (pending-here c)
+          (stored-there s.v.vlen s.v.words s.memory first m s.memory c (wide 0 k) alike.pages)
+          (sym (pending-there start good c) ∙ p);
     };
   }
 

@@ -1,7 +1,6 @@
 -- Memories that differ from a flat state's in its pending bytes alone: a store that was cut off may have written those, and the next
 -- instruction writes them again before anything reads them. This project's own.
-use Rattle.std.specs.Prelude.{◌≡◌, ℕ, Bool, true, false, List, map, length, Option, Some, None}
-use Rattle.vx_decode.specs.declared.instr.Instr.{Instr}
+use Rattle.std.specs.Prelude.{◌≡◌, ℕ, Bool, true, false, map, length, Option, Some, None}
 use Rattle.vx_flat.specs.Memory.{byte_at}
 use Rattle.vx_flat.specs.Outcome.{Outcome}
 use Rattle.vx_flat.specs.Outcome.Outcome.{Next, Exited, Faulted}
