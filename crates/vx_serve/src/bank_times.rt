@@ -1,0 +1,114 @@
+ghost use Rattle.std.specs.Prelude.{◌≡◌, ◌<◌, ◌≤◌, ◌%◌, ◌^◌, ◌+◌, ℕ, [], ◌∷◌, List, IsTrue, replicate};
+ghost use Rattle.vx_base.specs.Options.{is_bank_count};
+ghost use Rattle.vx_episode.specs.Batches as batches;
+ghost use Rattle.vx_episode.specs.Footprint.{Access};
+ghost use Rattle.vx_episode.specs.History.{AccessTimes};
+ghost use Rattle.vx_episode.specs.Organisation.{Organisation};
+ghost use Rattle.vx_serve.specs.Fates.{told, IsKnownBy};
+ghost use Rattle.vx_serve.specs.Serving.{Serves};
+ghost use Rattle.vx_serve.specs.Stamps.{StandsFor, AreBy, done_at, served_on};
+
+use crate::fate::Fate;
+use crate::served::{Failing, Served};
+use std::marker::Model;
+
+/// How many banks there are at the most.
+const LIMIT: usize = 16;
+
+/// From which cycle each bank of memory is free: the bank time behind the last serve on it, or 0.
+#[derive(Debug, Drop)]
+pub struct BankTimes {
+    banks: u32,
+    bank_time: u32,
+    stamps: [u64; LIMIT],
+}
+
+impl Model for BankTimes {
+    ghost use Rattle.std.specs.Prelude.{IsTrue};
+    ghost use Rattle.vx_base.specs.Options.{is_bank_count};
+    ghost use Rattle.vx_serve.specs.Stamps.{BankStamps};
+
+    ghost Value = { BankStamps };
+
+    ghost view = { λ b. record { banks = b.banks; bank_time = b.bank_time; stamps = b.stamps } };
+
+    ghost invariant = { λ b. IsTrue (is_bank_count b.banks) };
+}
+
+/// The bank of a word.
+#[inline(always)]
+fn bank_of(banks: u32, word: u32) -> usize
+    requires { IsTrue (is_bank_count banks) }
+    ensures value { result ≡ word % banks }
+    ensures within { result < 16 }
+{
+    (word & (banks - 1)) as usize
+}
+
+impl BankTimes {
+    /// So many banks, each held for so many cycles by an access. None was served yet.
+    pub fn new(banks: u32, bank_time: u32) -> BankTimes
+        requires { IsTrue (is_bank_count banks) }
+        ensures value { result ≡ record { banks = banks; bank_time = bank_time; stamps = replicate 16 0 } }
+        ensures stands { (machine : Organisation) → machine.banks ≡ banks → machine.bank_time ≡ bank_time → StandsFor result machine [] }
+        ensures by { AreBy 0 result.stamps }
+    {
+        BankTimes {
+            banks,
+            bank_time,
+            stamps: [0; LIMIT],
+        }
+    }
+
+    /// Forgets all serves.
+    pub fn clear(&mut self)
+        ensures cleared { self.new ≡ record self.old { stamps = replicate 16 0 } }
+        ensures stands { (machine : Organisation) → machine.banks ≡ self.old.banks → machine.bank_time ≡ self.old.bank_time → StandsFor self.new machine [] }
+        ensures by { AreBy 0 self.new.stamps }
+    {
+        self.stamps = [0; LIMIT];
+    }
+
+    /// Serves an access to a word that was queued at a cycle, and tells when it is done.
+    #[inline(always)]
+    fn serve(&mut self, queued: u64, word: u32) -> u64
+        requires queued { queued < 2 ^ 63 }
+        requires stamps { AreBy (2 ^ 63) self.old.stamps }
+        ensures done { result ≡ done_at self.old queued word }
+        ensures served { self.new ≡ served_on self.old queued word }
+    {
+        let bank = bank_of(self.banks, word);
+        let done = u64::max(queued + 1, self.stamps[bank]) + u64::from(self.bank_time);
+        self.stamps[bank] = done;
+        done
+    }
+
+    /// Serves a batch of one access, where it is queued.
+    #[inline]
+    pub fn serve_one(&mut self, fate: Fate) -> Served
+        requires known { IsKnownBy (2 ^ 62) fate }
+        requires stamps { AreBy (2 ^ 62) self.old.stamps }
+        ensures serves { (machine : Organisation) (earlier : List AccessTimes) (access : Access) (fate_of : Access → batches.Fate) → StandsFor self.old machine earlier
+            → fate_of access ≡ told fate → Serves self.new machine earlier fate_of (access ∷ []) result }
+        ensures by { (last : ℕ) → AreBy last self.old.stamps → result.done ≤ last → AreBy last self.new.stamps }
+        ensures soon { (last : ℕ) → AreBy last self.old.stamps → IsKnownBy last fate → result.done ≤ last + 1 + self.old.bank_time }
+    {
+        match fate {
+            Fate::Good(cycle, word) => Served {
+                done: self.serve(cycle, word),
+                missing: 0,
+                failing: None,
+            },
+            Fate::Fails(_, is_away) => Served {
+                done: 0,
+                missing: 1,
+                failing: Some(Failing { number: 0, is_away }),
+            },
+            Fate::Unknown => Served {
+                done: 0,
+                missing: 1,
+                failing: None,
+            },
+        }
+    }
+}

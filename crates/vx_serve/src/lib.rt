@@ -1,0 +1,13 @@
+//! The queue of a batch of accesses and their serves: at which cycle each access is done, in numbers alone.
+//!
+//! It stands on the definitions of `vx_episode`, whose queue and serve cycles it computes. To the crates above it gives `Fate`,
+//! what is known of an access, and `BankTimes`, which serves a batch and keeps from which cycle each bank of memory is free.
+#![tactic(auto)]
+
+mod bank_times;
+mod fate;
+mod served;
+
+pub use bank_times::BankTimes;
+pub use fate::Fate;
+pub use served::{Failing, Served};
