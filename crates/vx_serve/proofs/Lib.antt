@@ -1,1 +1,5 @@
+pub mod Batch
+pub mod Bounds
+pub mod Judged
+pub mod Places
 pub mod Stamped

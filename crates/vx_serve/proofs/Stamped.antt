@@ -11,9 +11,11 @@ use Rattle.vx_episode.specs.Footprint.{Access}
 use Rattle.vx_episode.specs.History.{AccessTimes, bank_of, last_serve}
 use Rattle.vx_episode.specs.Organisation.{Organisation}
 use Rattle.vx_serve.specs.Serving.{Serves, done_by, failing_from}
-use Rattle.vx_serve.specs.Stamps.{BankStamps, StandsFor, AreBy, free_from, done_at, served_on}
+use Rattle.vx_serve.specs.Stamps.{BankStamps, StandsFor, free_from}
+use Rattle.vx_serve.specs.Turns.{done_at, served_on, served_all, done_all}
 use Rattle.vx_serve.specs.declared.served.Failing.{Failing}
 use Rattle.vx_serve.specs.declared.served.Served.{Served}
+use Rattle.vx_serve.proofs.Judged.{plain}
 
 free-same : (machine : Organisation) (bank : ℕ) (t : AccessTimes) (earlier : List AccessTimes) → (bank_of machine t.word == bank) ≡ true → free_from machine bank (t ∷ earlier) ≡ t.served + machine.bank_time
 free-same machine bank t earlier is = rw is refl
@@ -62,6 +64,22 @@ module _ (view : BankStamps) (machine : Organisation) (earlier : List AccessTime
     places = rw length-set stands.places;
     are_free_from = stamps-served w;
   }
+
+-- the accesses of a queue in turn
+pub all-served : (view : BankStamps) (machine : Organisation) (earlier now : List AccessTimes) (queue : List Waiting) → StandsFor view machine (now ++ earlier)
+    → StandsFor (served_all view (map plain queue)) machine (served_in_turn machine earlier now queue ++ earlier)
+all-served view machine earlier now [] stands = stands
+all-served view machine earlier now (w ∷ queue) stands =
+    all-served (served_on view w.queued w.word) machine earlier (served_at machine (serve_cycle machine (now ++ earlier) w.word w.queued) w ∷ now) queue
+    (stands-served view machine (now ++ earlier) stands w)
+
+pub all-done : (view : BankStamps) (machine : Organisation) (earlier now : List AccessTimes) (queue : List Waiting) → StandsFor view machine (now ++ earlier)
+    → done_all view (done_by now) (map plain queue) ≡ done_by (served_in_turn machine earlier now queue)
+all-done view machine earlier now [] stands = refl
+all-done view machine earlier now (w ∷ queue) stands =
+    ap (λ n. done_all (served_on view w.queued w.word) (max n (done_by now)) (map plain queue)) (done-served view machine (now ++ earlier) stands w.queued w.word)
+    ∙ all-done (served_on view w.queued w.word) machine earlier (served_at machine (serve_cycle machine (now ++ earlier) w.word w.queued) w ∷ now) queue
+    (stands-served view machine (now ++ earlier) stands w)
 
 max-zero : (n : ℕ) → max n 0 ≡ n
 max-zero n = omega arith

@@ -1,3 +1,5 @@
 pub mod Fates
+pub mod Queue
 pub mod Serving
 pub mod Stamps
+pub mod Turns

@@ -1,5 +1,5 @@
 -- From which cycle each bank of memory is free. This project's own.
-use Rattle.std.specs.Prelude.{◌≡◌, ℕ, ◌+◌, ◌%◌, ◌<◌, ◌≤◌, max, List, length, slice_index, slice_set}
+use Rattle.std.specs.Prelude.{◌≡◌, ℕ, ◌+◌, ◌<◌, ◌≤◌, List, length, slice_index}
 use Rattle.std.specs.Option.{option_map_or}
 use Rattle.vx_episode.specs.History.{AccessTimes, last_serve}
 use Rattle.vx_episode.specs.Organisation.{Organisation}
@@ -29,13 +29,3 @@ pub record StandsFor (view : BankStamps) (machine : Organisation) (earlier : Lis
 -- no stamp is later than that
 abbrev pub AreBy : (last : ℕ) → (stamps : List ℕ) → Type 0
 AreBy last stamps = (bank : ℕ) → slice_index stamps bank ≤ last
-
--- ---- one serve, in numbers
-
--- the cycle at which an access is done that was queued at a cycle
-abbrev pub done_at : BankStamps → (queued word : ℕ) → ℕ
-done_at view queued word = max (queued + 1) (slice_index view.stamps (word % view.banks)) + view.bank_time
-
--- and the stamps then
-abbrev pub served_on : BankStamps → (queued word : ℕ) → BankStamps
-served_on view queued word = record view { stamps = slice_set view.stamps (word % view.banks) (done_at view queued word) }

@@ -1,14 +1,16 @@
-ghost use Rattle.std.specs.Prelude.{◌≡◌, ◌<◌, ◌≤◌, ◌%◌, ◌^◌, ◌+◌, ℕ, [], ◌∷◌, List, IsTrue, replicate};
+ghost use Rattle.std.specs.Prelude.{◌≡◌, ◌<◌, ◌≤◌, ◌%◌, ◌^◌, ◌+◌, ℕ, [], ◌∷◌, ◌*◌, List, length, map, IsTrue, replicate};
 ghost use Rattle.vx_base.specs.Options.{is_bank_count};
 ghost use Rattle.vx_episode.specs.Batches as batches;
 ghost use Rattle.vx_episode.specs.Footprint.{Access};
 ghost use Rattle.vx_episode.specs.History.{AccessTimes};
 ghost use Rattle.vx_episode.specs.Organisation.{Organisation};
-ghost use Rattle.vx_serve.specs.Fates.{told, IsKnownBy};
+ghost use Rattle.vx_serve.specs.Fates.{told, IsKnownBy, AreKnownBy};
 ghost use Rattle.vx_serve.specs.Serving.{Serves};
-ghost use Rattle.vx_serve.specs.Stamps.{StandsFor, AreBy, done_at, served_on};
+ghost use Rattle.vx_serve.specs.Stamps.{StandsFor, AreBy};
+ghost use Rattle.vx_serve.specs.Turns.{done_at, served_on, served_all, done_all, AreQueuedBy};
 
 use crate::fate::Fate;
+use crate::queue::{judged, Waiting};
 use crate::served::{Failing, Served};
 use std::marker::Model;
 
@@ -76,10 +78,26 @@ impl BankTimes {
         requires stamps { AreBy (2 ^ 63) self.old.stamps }
         ensures done { result ≡ done_at self.old queued word }
         ensures served { self.new ≡ served_on self.old queued word }
+        ensures by { (last : ℕ) → AreBy last self.old.stamps → queued < last → AreBy (last + 2 ^ 32) self.new.stamps }
     {
         let bank = bank_of(self.banks, word);
         let done = u64::max(queued + 1, self.stamps[bank]) + u64::from(self.bank_time);
         self.stamps[bank] = done;
+        done
+    }
+
+    /// Serves the accesses of a queue in turn, and tells when all are done.
+    fn serve_queue(&mut self, queue: &[Waiting]) -> u64
+        requires few { length queue.now < 9 }
+        requires queued { AreQueuedBy (2 ^ 62) queue.now }
+        requires stamps { AreBy (2 ^ 62) self.old.stamps }
+        ensures done { result ≡ done_all self.old 0 queue.now }
+        ensures served { self.new ≡ served_all self.old queue.now }
+    {
+        let mut done = 0;
+        for w in queue {
+            done = u64::max(self.serve(w.queued, w.word), done);
+        }
         done
     }
 
@@ -109,6 +127,23 @@ impl BankTimes {
                 missing: 1,
                 failing: None,
             },
+        }
+    }
+    /// Serves a batch of accesses, the lowest first, of those that are queued.
+    pub fn serve_all(&mut self, fates: &[Fate]) -> Served
+        requires few { length fates.now < 9 }
+        requires known { AreKnownBy (2 ^ 62) fates.now }
+        requires stamps { AreBy (2 ^ 62) self.old.stamps }
+        ensures serves { (machine : Organisation) (earlier : List AccessTimes) (accesses : List Access) (fate_of : Access → batches.Fate) → StandsFor self.old machine earlier
+            → map fate_of accesses ≡ map told fates.now → Serves self.new machine earlier fate_of accesses result }
+        ensures by { (last : ℕ) → AreBy last self.old.stamps → result.done ≤ last → AreBy last self.new.stamps }
+        ensures soon { (last : ℕ) → AreBy last self.old.stamps → AreKnownBy last fates.now → result.done ≤ last + 1 + length fates.now * self.old.bank_time }
+    {
+        let queue = judged(fates);
+        Served {
+            done: self.serve_queue(queue.order()),
+            missing: queue.missing(),
+            failing: queue.failing(),
         }
     }
 }

@@ -6,6 +6,7 @@
 
 mod bank_times;
 mod fate;
+mod queue;
 mod served;
 
 pub use bank_times::BankTimes;
