@@ -50,7 +50,7 @@ unless-by : (last : ℕ) (failed cycle : Option ℕ) → IsBy last cycle → IsB
 unless-by last failed None p = tt
 unless-by last failed (Some cycle) p = past-by last cycle (is_failed failed cycle) p
 
-abbrev IsQueuedBy : (last : ℕ) → Waiting → Type 0
+abbrev pub IsQueuedBy : (last : ℕ) → Waiting → Type 0
 IsQueuedBy last w = w.queued ≤ last
 
 placed-by : (last : ℕ) (w : Waiting) (order : List Waiting) → w.queued ≤ last → AreQueuedBy last order → AreQueuedBy last (placed_behind w order)
@@ -158,8 +158,8 @@ done-soon last view done (w ∷ queue) by all lt =
     let rest : AreQueuedBy (last + view.bank_time) queue = λ k d within. (let each : (get_or queue k d).queued ≤ last = All-tail (IsQueuedBy last) w queue all k d within in omega arith) in
     let before : AreBy (last + view.bank_time + 1) view.stamps = λ bank. (let each : get_or view.stamps bank 0 ≤ last + 1 = by bank in omega arith) in
     let more = done-soon (last + view.bank_time) now (max at done) queue
-        (λ bank. stamp-set view.stamps (last + view.bank_time + 1) (w.word % view.banks) at bank before most)
-        rest (omega arith) in
+    (λ bank. stamp-set view.stamps (last + view.bank_time + 1) (w.word % view.banks) at bank before most)
+    rest (omega arith) in
     omega (arith, more)
 
 -- one serve more of a queue

@@ -2,15 +2,15 @@ ghost use Rattle.std.specs.Prelude.{◌≡◌, ◌<◌, ◌≤◌, ◌%◌, ◌^
 ghost use Rattle.vx_base.specs.Options.{is_bank_count};
 ghost use Rattle.vx_episode.specs.Batches as batches;
 ghost use Rattle.vx_episode.specs.Footprint.{Access};
-ghost use Rattle.vx_episode.specs.History.{AccessTimes};
+ghost use Rattle.vx_episode.specs.History.{AccessTimes, queued_by};
 ghost use Rattle.vx_episode.specs.Organisation.{Organisation};
 ghost use Rattle.vx_serve.specs.Fates.{told, IsKnownBy, AreKnownBy};
-ghost use Rattle.vx_serve.specs.Serving.{Serves};
+ghost use Rattle.vx_serve.specs.Serving.{Serves, served_of, done_by};
 ghost use Rattle.vx_serve.specs.Stamps.{StandsFor, AreBy};
 ghost use Rattle.vx_serve.specs.Turns.{done_at, served_on, served_all, done_all, AreQueuedBy};
 
 use crate::fate::Fate;
-use crate::queue::{judged, Waiting};
+use crate::queue::{Waiting, judged, queued_by};
 use crate::served::{Failing, Served};
 use std::marker::Model;
 
@@ -145,5 +145,20 @@ impl BankTimes {
             missing: queue.missing(),
             failing: queue.failing(),
         }
+    }
+
+    /// Serves a batch of accesses, and tells when those are done that are queued by a cycle, 0 where there are none. The stamps
+    /// need not stand for anything afterwards.
+    pub fn serve_all_by(&mut self, fates: &[Fate], last: u64) -> u64
+        requires few { length fates.now < 9 }
+        requires known { AreKnownBy (2 ^ 62) fates.now }
+        requires stamps { AreBy (2 ^ 62) self.old.stamps }
+        ensures { (machine : Organisation) (earlier : List AccessTimes) (accesses : List Access) (fate_of : Access → batches.Fate) → StandsFor self.old machine earlier
+            → map fate_of accesses ≡ map told fates.now → result ≡ done_by (queued_by last (served_of machine earlier fate_of accesses)) }
+    {
+        let queue = judged(fates);
+        let order = queue.order();
+        let count = queued_by(order, last);
+        self.serve_queue(&order[..count])
     }
 }

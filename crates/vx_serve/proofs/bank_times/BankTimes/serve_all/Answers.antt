@@ -10,11 +10,6 @@ use Rattle.vx_serve.specs.Turns.{AreQueuedBy, served_all, done_all}
 use Rattle.vx_serve.specs.declared.queue.Waiting.{Waiting}
 use Rattle.vx_serve.proofs.bank_times.BankTimes.serve_all.Goals as goal
 
-pub serve_queue-requires-clause-few : goal.serve_queue-requires-clause-few
-serve_queue-requires-clause-few c =
-    let is : c.order.result.now ≡ (judged_all empty c.args.fates.now).order = c.order.ensures ∙ ap (λ (q : QueueView). q.order) c.judged-queue.ensures in
-    rw is (omega (arith, queue-count c.args.fates.now))
-
 pub serve_queue-requires-clause-queued : goal.serve_queue-requires-clause-queued
 serve_queue-requires-clause-queued c =
     let is : c.order.result.now ≡ (judged_all empty c.args.fates.now).order = c.order.ensures ∙ ap (λ (q : QueueView). q.order) c.judged-queue.ensures in

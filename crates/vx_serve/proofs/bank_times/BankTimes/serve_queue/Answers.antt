@@ -7,10 +7,9 @@ pub loop-w-preserved : goal.loop-w-preserved
 loop-w-preserved c =
     let none : Waiting = record { word = 0; queued = 0 } in
     let queued : (get_or c.args.queue.now c.loop-w.w-index none).queued ≤ 2 ^ 62 = c.requires.queued c.loop-w.w-index none c.loop-w-test.true in
-    let before : (get_or c.args.queue.now c.loop-w.w-index none).queued < 2 ^ 62 + 1 + c.loop-w.w-index * 2 ^ 32 = omega arith in
-    (
-        step-served c.loop-w.self c.serve.new.self c.args.queue.now c.loop-w.w-index none c.loop-w-test.true c.serve.ensures.served ∙ c.loop-w.invariant.0,
-        step-done c.loop-w.self c.serve.new.self c.loop-w.done c.serve.result c.max-done.result c.args.queue.now c.loop-w.w-index none c.loop-w-test.true c.serve.ensures.served c.serve.ensures.done c.max-done.ensures
-        ∙ c.loop-w.invariant.1,
-        λ bank. (let each = c.serve.ensures.by (2 ^ 62 + 1 + c.loop-w.w-index * 2 ^ 32) c.loop-w.invariant.2 before bank in omega (arith, each))
+    let before : (get_or c.args.queue.now c.loop-w.w-index none).queued < 2 ^ 62 + 1 + c.loop-w.w-index * 2 ^ 32 = omega arith in (
+      step-served c.loop-w.self c.serve.new.self c.args.queue.now c.loop-w.w-index none c.loop-w-test.true c.serve.ensures.served ∙ c.loop-w.invariant.0,
+      step-done c.loop-w.self c.serve.new.self c.loop-w.done c.serve.result c.max-done.result c.args.queue.now c.loop-w.w-index none c.loop-w-test.true c.serve.ensures.served c.serve.ensures.done c.max-done.ensures
+          ∙ c.loop-w.invariant.1,
+      λ bank. (let each = c.serve.ensures.by (2 ^ 62 + 1 + c.loop-w.w-index * 2 ^ 32) c.loop-w.invariant.2 before bank in omega (arith, each)),
     )
