@@ -80,7 +80,7 @@ queue-cycle view js cycle word is =
 
 -- ---- one access more
 
-abbrev as_judged : Access → Fate → Cycle → Judged
+abbrev pub as_judged : Access → Fate → Cycle → Judged
 as_judged a fate queued = record { access = a; fate = fate; queued = queued }
 
 words-more : (js : List Judged) (lower : List Lower) (a : Access) (known word : ℕ) (queued : Option ℕ)
@@ -131,7 +131,7 @@ failing-more js j count failing bad is before =
     ap (failing_from 0) (fates-end js j) ∙ failing-bad 0 (fates_of js) j.fate bad
     ∙ (λ i. Some (first_failing (before i) (record { number = (zero-plus (length (fates_of js)) ∙ is) i; is_away = fails_away j.fate })))
 
-queue-end : (js : List Judged) (j : Judged) → flat_map waiting_of (reverse (j ∷ js)) ≡ flat_map waiting_of (reverse js) ++ (waiting_of j ++ [])
+pub queue-end : (js : List Judged) (j : Judged) → flat_map waiting_of (reverse (j ∷ js)) ≡ flat_map waiting_of (reverse js) ++ (waiting_of j ++ [])
 queue-end js j = ap (flat_map waiting_of) (reverse-append (j ∷ []) js) ∙ flat_map-append waiting_of (reverse js) (j ∷ [])
 
 abbrev number_of : Queued → ℕ

@@ -6,9 +6,11 @@
 
 mod bank_times;
 mod fate;
+mod laws;
 mod queue;
 mod served;
 
 pub use bank_times::BankTimes;
 pub use fate::Fate;
+pub use laws::{accesses_go_in_turn, known_accesses_are_queued, what_is_known_is_enough};
 pub use served::{Failing, Served};
