@@ -1,9 +1,9 @@
 -- A batch in numbers against that of the equations.
-use Rattle.std.proofs.Common.{◌≡◌, ℕ, ◌+◌, max, Some, None, List, [], ◌∷◌, ◌++◌, length, refl, sym, ap, ◌∙◌, subst, arith, take}
+use Rattle.std.proofs.Common.{◌≡◌, ℕ, max, List, [], ◌++◌, refl, sym, ap, ◌∙◌, subst, arith, take}
 use Rattle.std.proofs.lemmas.List.{map-append}
 use Rattle.std.specs.Prelude.{map, filter, flat_map, reverse}
 use Rattle.std.specs.List.{prefix_len}
-use Rattle.vx_episode.specs.Batches.{Fate, judged, waiting_of, queue_of, served_in_turn, never_queued}
+use Rattle.vx_episode.specs.Batches.{Fate, judged, waiting_of, queue_of}
 use Rattle.vx_episode.specs.Cycles.Cycle.{At}
 use Rattle.vx_episode.specs.Footprint.{Access}
 use Rattle.vx_episode.specs.History.{AccessTimes, queued_by}

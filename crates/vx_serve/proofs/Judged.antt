@@ -1,20 +1,20 @@
 -- A batch's queue in numbers against that of the equations.
-use Rattle.std.proofs.Common.{◌≡◌, ℕ, suc, ◌+◌, ◌<◌, ◌≤◌, Bool, true, false, cond, max, min, Option, Some, None, inl, inr, List, [], ◌∷◌, ◌++◌, reverse, length, refl, sym, ap, ◌∙◌, subst, arith, append_assoc}
+use Rattle.std.proofs.Common.{◌≡◌, ℕ, suc, ◌+◌, Bool, true, false, cond, max, Option, Some, None, inl, inr, List, [], ◌∷◌, ◌++◌, reverse, length, refl, sym, ap, ◌∙◌, subst, arith, append_assoc}
 use Rattle.std.proofs.lemmas.List.{map-append, reverse-append, append-nil, length_push}
-use Rattle.std.specs.Prelude.{◌==◌, ◌||◌, nat_le, map, filter, flat_map, not, insert}
-use Rattle.std.specs.List.{list_any, prefix_len}
+use Rattle.std.specs.Prelude.{◌==◌, ◌||◌, nat_le, map, flat_map}
+use Rattle.std.specs.List.{list_any}
 use Rattle.std.proofs.lemmas.Grind.{flat_map-append}
 use Rattle.std.proofs.lemmas.Bool.{cases_Bool}
 use Rattle.std.proofs.Math.Bool.{or-false}
 use Rattle.std.proofs.lemmas.Bool.Decides.{nat_tests}
-use Rattle.vx_episode.specs.Batches.{Fate, Judged, Waiting as Queued, is_to, queued_to, unless_failed, queue_cycle, fails_by, is_failing, fails_away, judged, waiting_of, waiting_as, queue_of, is_queued, never_queued}
+use Rattle.vx_episode.specs.Batches.{Fate, Judged, Waiting as Queued, queued_to, unless_failed, queue_cycle, fails_by, is_failing, fails_away, judged, waiting_of, queue_of, never_queued}
 use Rattle.vx_episode.specs.Batches.Fate.{Good, Fails, Unknown}
 use Rattle.vx_episode.specs.Cycles.{Cycle, later_of, latest}
 use Rattle.vx_episode.specs.Cycles.Cycle.{At, Never}
 use Rattle.vx_episode.specs.Footprint.{Access}
 use Rattle.vx_episode.specs.Ordered.{ordered}
 use Rattle.vx_serve.specs.Fates.{told}
-use Rattle.vx_serve.specs.Queue.{QueueView, later_known, latest_with, latest_of, sooner, is_failed, unless_failed_by, queue_at, placed_behind, is_queued_by, first_failing, queued_on, judged_on, judged_all}
+use Rattle.vx_serve.specs.Queue.{QueueView, later_known, latest_with, latest_of, sooner, is_failed, unless_failed_by, queue_at, placed_behind, first_failing, queued_on, judged_on, judged_all}
 use Rattle.vx_serve.specs.Serving.{failing_from}
 use Rattle.vx_serve.specs.declared.fate.Fate.{Fate as Known}
 use Rattle.vx_serve.specs.declared.fate.Fate.TheVariants as known

@@ -1,22 +1,21 @@
 -- Accesses whose words are known are queued, and in which order it goes on.
-use Rattle.std.proofs.Common.{◌≡◌, ◌≢◌, ℕ, zero, suc, ◌+◌, ◌<◌, ◌≤◌, Bool, true, false, cond, max, inl, inr, Option, Some, None, List, [], ◌∷◌, ◌++◌, reverse, length, get_or, refl, sym, ap, ◌∙◌, subst, arith, append_assoc}
-use Rattle.std.specs.Prelude.{◌==◌, ◌||◌, ◌⊎◌, nat_le, not, map, filter, find, flat_map, All, option_map, slice_get}
+use Rattle.std.proofs.Common.{◌≡◌, ℕ, ◌+◌, ◌<◌, ◌≤◌, Bool, true, false, inl, inr, Some, List, [], ◌∷◌, ◌++◌, reverse, length, get_or, refl, sym, ap, ◌∙◌, subst, arith, append_assoc}
+use Rattle.std.specs.Prelude.{nat_le, map, find, flat_map, All, option_map, slice_get}
 use Rattle.std.specs.List.{list_any, AllPass}
 use Rattle.std.proofs.lemmas.List.{reverse-append, length_push}
 use Rattle.std.proofs.lemmas.Bool.{cases_Bool, cond_both, leb-true}
 use Rattle.std.proofs.lemmas.List.Elements.{All-head, All-tail, All-cons, All-append}
-use Rattle.vx_episode.specs.Batches.{Fate, Judged, Waiting, is_to, queued_to, unless_failed, queue_cycle, fails_by, is_failing, fails_away, failure_of, judged, is_queued, never_queued, lowest_failure, waiting_of, waiting_as, queue_of, served_in_turn, served_at, serve_cycle}
+use Rattle.vx_episode.specs.Batches.{Fate, Judged, Waiting, is_to, queued_to, unless_failed, queue_cycle, fails_by, is_failing, failure_of, judged, is_queued, never_queued, lowest_failure, waiting_of, waiting_as, queue_of, served_in_turn, served_at, serve_cycle}
 use Rattle.vx_episode.specs.Batches.Fate.{Good, Fails, Unknown}
 use Rattle.vx_episode.specs.Cycles.{Cycle, later_of, latest}
 use Rattle.vx_episode.specs.Cycles.Cycle.{At, Never}
 use Rattle.vx_episode.specs.Footprint.{Access}
-use Rattle.vx_episode.specs.History.{AccessTimes, Failure}
+use Rattle.vx_episode.specs.History.{AccessTimes}
 use Rattle.vx_episode.specs.Ordered.{placed, ordered}
 use Rattle.vx_episode.specs.Organisation.{Organisation}
 use Rattle.vx_serve.specs.Agreeing.{IsApart, AreApart, IsCutAt}
 use Rattle.vx_serve.specs.InTurn.{IsInTurn, is_good, AreGood, failure_at}
 use Rattle.vx_serve.specs.Serving.{served_of, failing_from}
-use Rattle.vx_serve.specs.declared.served.Failing.{Failing}
 use Rattle.vx_serve.proofs.Judged.{as_judged, queue-end}
 
 -- ---- queue cycles

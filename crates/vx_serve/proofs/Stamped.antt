@@ -1,20 +1,17 @@
 -- Stamps and the serves that they stand for.
-use Rattle.std.proofs.Common.{◌≡◌, ◌≢◌, ℕ, ◌+◌, ◌%◌, ◌<◌, ◌≤◌, Bool, true, false, max, Some, None, inl, inr, List, [], ◌∷◌, ◌++◌, get_or, length, refl, sym, ap, ◌∙◌, subst, arith, get_or-set_same, get_or-set_other}
+use Rattle.std.proofs.Common.{◌≡◌, ◌≢◌, ℕ, ◌+◌, ◌%◌, ◌<◌, true, false, max, None, inl, inr, List, [], ◌∷◌, ◌++◌, get_or, length, refl, sym, ap, ◌∙◌, subst, arith, get_or-set_same, get_or-set_other}
 use Rattle.std.proofs.lemmas.List.{length-set}
-use Rattle.std.specs.Prelude.{◌==◌, map, option_map, slice_set}
-use Rattle.std.specs.Option.{option_map_or}
+use Rattle.std.specs.Prelude.{◌==◌, map, slice_set}
 use Rattle.std.proofs.lemmas.Bool.{cases_Bool, eqb-true, eqb-false}
 use Rattle.std.proofs.Math.Nat.{mod-lt}
 use Rattle.vx_episode.specs.Batches.{Fate, Judged, Waiting, queue_cycle, queue_of, served_in_turn, served_at, serve_cycle, done_cycle, never_queued}
-use Rattle.vx_episode.specs.Batches.Fate.{Good, Fails, Unknown}
+use Rattle.vx_episode.specs.Batches.Fate.{Good}
 use Rattle.vx_episode.specs.Footprint.{Access}
-use Rattle.vx_episode.specs.History.{AccessTimes, bank_of, last_serve}
+use Rattle.vx_episode.specs.History.{AccessTimes, bank_of}
 use Rattle.vx_episode.specs.Organisation.{Organisation}
 use Rattle.vx_serve.specs.Serving.{Serves, done_by, failing_from}
 use Rattle.vx_serve.specs.Stamps.{BankStamps, StandsFor, free_from}
 use Rattle.vx_serve.specs.Turns.{done_at, served_on, served_all, done_all}
-use Rattle.vx_serve.specs.declared.served.Failing.{Failing}
-use Rattle.vx_serve.specs.declared.served.Served.{Served}
 use Rattle.vx_serve.proofs.Judged.{plain}
 
 free-same : (machine : Organisation) (bank : ℕ) (t : AccessTimes) (earlier : List AccessTimes) → (bank_of machine t.word == bank) ≡ true → free_from machine bank (t ∷ earlier) ≡ t.served + machine.bank_time

@@ -1,5 +1,5 @@
 -- What a batch of accesses comes to. This project's own.
-use Rattle.std.specs.Prelude.{◌≡◌, ℕ, ◌+◌, Bool, false, List, [], ◌∷◌, ◌++◌, length, map, Option, Some, None, if◌then◌else◌}
+use Rattle.std.specs.Prelude.{◌≡◌, ℕ, ◌+◌, false, List, [], ◌∷◌, ◌++◌, length, map, Option, Some, None, if◌then◌else◌}
 use Rattle.vx_episode.specs.Batches.{Fate, is_failing, fails_away, judged, queue_of, served_in_turn, never_queued}
 use Rattle.vx_episode.specs.Episode.{greatest}
 use Rattle.vx_episode.specs.Footprint.{Access}

@@ -29,3 +29,7 @@ pub record StandsFor (view : BankStamps) (machine : Organisation) (earlier : Lis
 -- no stamp is later than that
 abbrev pub AreBy : (last : ℕ) → (stamps : List ℕ) → Type 0
 AreBy last stamps = (bank : ℕ) → slice_index stamps bank ≤ last
+
+-- they are of the same banks
+abbrev pub AreOfSame : (before after : BankStamps) → Type 0
+AreOfSame before after = (after.banks ≡ before.banks) × (after.bank_time ≡ before.bank_time)

@@ -6,7 +6,7 @@ ghost use Rattle.vx_episode.specs.History.{AccessTimes, queued_by};
 ghost use Rattle.vx_episode.specs.Organisation.{Organisation};
 ghost use Rattle.vx_serve.specs.Fates.{told, IsKnownBy, AreKnownBy};
 ghost use Rattle.vx_serve.specs.Serving.{Serves, served_of, done_by};
-ghost use Rattle.vx_serve.specs.Stamps.{StandsFor, AreBy};
+ghost use Rattle.vx_serve.specs.Stamps.{StandsFor, AreBy, AreOfSame};
 ghost use Rattle.vx_serve.specs.Turns.{done_at, served_on, served_all, done_all, AreQueuedBy};
 
 use crate::fate::Fate;
@@ -93,6 +93,7 @@ impl BankTimes {
         requires stamps { AreBy (2 ^ 62) self.old.stamps }
         ensures done { result ≡ done_all self.old 0 queue.now }
         ensures served { self.new ≡ served_all self.old queue.now }
+        ensures kept { AreOfSame self.old self.new }
     {
         let mut done = 0;
         for w in queue {
@@ -110,6 +111,7 @@ impl BankTimes {
             → fate_of access ≡ told fate → Serves self.new machine earlier fate_of (access ∷ []) result }
         ensures by { (last : ℕ) → AreBy last self.old.stamps → result.done ≤ last → AreBy last self.new.stamps }
         ensures soon { (last : ℕ) → AreBy last self.old.stamps → IsKnownBy last fate → result.done ≤ last + 1 + self.old.bank_time }
+        ensures kept { AreOfSame self.old self.new }
     {
         match fate {
             Fate::Good(cycle, word) => Served {
@@ -129,7 +131,8 @@ impl BankTimes {
             },
         }
     }
-    /// Serves a batch of accesses, the lowest first, of those that are queued.
+
+    /// Serves a batch of up to eight accesses, those that are queued, in the order of their queue cycles and then of their numbers.
     pub fn serve_all(&mut self, fates: &[Fate]) -> Served
         requires few { length fates.now < 9 }
         requires known { AreKnownBy (2 ^ 62) fates.now }
@@ -138,6 +141,7 @@ impl BankTimes {
             → map fate_of accesses ≡ map told fates.now → Serves self.new machine earlier fate_of accesses result }
         ensures by { (last : ℕ) → AreBy last self.old.stamps → result.done ≤ last → AreBy last self.new.stamps }
         ensures soon { (last : ℕ) → AreBy last self.old.stamps → AreKnownBy last fates.now → result.done ≤ last + 1 + length fates.now * self.old.bank_time }
+        ensures kept { AreOfSame self.old self.new }
     {
         let queue = judged(fates);
         Served {
@@ -153,8 +157,9 @@ impl BankTimes {
         requires few { length fates.now < 9 }
         requires known { AreKnownBy (2 ^ 62) fates.now }
         requires stamps { AreBy (2 ^ 62) self.old.stamps }
-        ensures { (machine : Organisation) (earlier : List AccessTimes) (accesses : List Access) (fate_of : Access → batches.Fate) → StandsFor self.old machine earlier
+        ensures done { (machine : Organisation) (earlier : List AccessTimes) (accesses : List Access) (fate_of : Access → batches.Fate) → StandsFor self.old machine earlier
             → map fate_of accesses ≡ map told fates.now → result ≡ done_by (queued_by last (served_of machine earlier fate_of accesses)) }
+        ensures kept { AreOfSame self.old self.new }
     {
         let queue = judged(fates);
         let order = queue.order();

@@ -1,12 +1,11 @@
-use Rattle.std.proofs.Common.{◌≡◌, ◌+◌, ◌*◌, ◌^◌, ◌≤◌, ap, ◌∙◌, sym, subst, arith, rules, List, length}
+use Rattle.std.proofs.Common.{◌≡◌, ◌^◌, ◌≤◌, ap, ◌∙◌, sym, subst, arith, List, length}
 use Rattle.std.proofs.Math.Nat.{mul-le-mul_right}
 use Rattle.vx_serve.proofs.Batch.{batch-served}
 use Rattle.vx_serve.specs.declared.served.Served.{Served}
 use Rattle.vx_serve.proofs.Bounds.{empty, queue-by, queue-count, stamps-by, done-soon}
-use Rattle.vx_serve.specs.Fates.{told}
 use Rattle.vx_serve.specs.Queue.{QueueView, judged_all}
 use Rattle.vx_serve.specs.Stamps.{AreBy, BankStamps}
-use Rattle.vx_serve.specs.Turns.{AreQueuedBy, served_all, done_all}
+use Rattle.vx_serve.specs.Turns.{AreQueuedBy, done_all}
 use Rattle.vx_serve.specs.declared.queue.Waiting.{Waiting}
 use Rattle.vx_serve.proofs.bank_times.BankTimes.serve_all.Goals as goal
 

@@ -1,5 +1,4 @@
 use Rattle.std.proofs.Common.{◌≡◌, ◌^◌, List, ap, ◌∙◌, sym, subst, take}
-use Rattle.std.specs.List.{prefix_len}
 use Rattle.std.proofs.lemmas.List.Elements.{All-take}
 use Rattle.vx_serve.proofs.Batch.{batch-by}
 use Rattle.vx_serve.proofs.Bounds.{empty, queue-by, IsQueuedBy}
@@ -14,8 +13,8 @@ serve_queue-requires-clause-queued c =
     All-take (IsQueuedBy (2 ^ 62)) c.queued_by-count.result c.order-order.result.now
     (subst (λ (queue : List Waiting). AreQueuedBy (2 ^ 62) queue) (sym is) (queue-by (2 ^ 62) c.args.fates.now c.requires.known))
 
-pub returns : goal.returns
-returns c machine earlier accesses fate_of stands are =
+pub returns-clause-done : goal.returns-clause-done
+returns-clause-done c machine earlier accesses fate_of stands are =
     batch-by c.args.self.now machine earlier fate_of accesses c.args.fates.now c.order-order.result.now c.args.last c.serve_queue.result stands are
     (c.order-order.ensures ∙ ap (λ (q : QueueView). q.order) c.judged-queue.ensures)
     (c.serve_queue.ensures.done ∙ ap (λ n. done_all c.args.self.now 0 (take n c.order-order.result.now)) c.queued_by-count.ensures.value)

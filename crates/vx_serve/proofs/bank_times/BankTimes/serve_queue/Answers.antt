@@ -1,5 +1,6 @@
-use Rattle.std.proofs.Common.{◌∙◌, ◌+◌, ◌*◌, ◌^◌, ◌<◌, ◌≤◌, arith, get_or}
+use Rattle.std.proofs.Common.{◌∙◌, ◌+◌, ◌*◌, ◌^◌, ◌<◌, ◌≤◌, arith, get_or, ap}
 use Rattle.vx_serve.proofs.Bounds.{step-served, step-done}
+use Rattle.vx_serve.specs.Stamps.{BankStamps}
 use Rattle.vx_serve.specs.declared.queue.Waiting.{Waiting}
 use Rattle.vx_serve.proofs.bank_times.BankTimes.serve_queue.Goals as goal
 
@@ -12,4 +13,8 @@ loop-w-preserved c =
       step-done c.loop-w.self c.serve.new.self c.loop-w.done c.serve.result c.max-done.result c.args.queue.now c.loop-w.w-index none c.loop-w-test.true c.serve.ensures.served c.serve.ensures.done c.max-done.ensures
           ∙ c.loop-w.invariant.1,
       λ bank. (let each = c.serve.ensures.by (2 ^ 62 + 1 + c.loop-w.w-index * 2 ^ 32) c.loop-w.invariant.2 before bank in omega (arith, each)),
+      (
+        ap (λ (v : BankStamps). v.banks) c.serve.ensures.served ∙ c.loop-w.invariant.3.0,
+        ap (λ (v : BankStamps). v.bank_time) c.serve.ensures.served ∙ c.loop-w.invariant.3.1,
+      ),
     )
