@@ -3,6 +3,7 @@ use Rattle.std.proofs.Common.{◌≡◌, ℕ, ◌≤◌, true, false, cond, max,
 use Rattle.std.specs.Prelude.{◌||◌, ◌⊎◌, nat_le, map, filter, flat_map, All}
 use Rattle.std.specs.List.{list_any}
 use Rattle.std.proofs.lemmas.Bool.{cases_Bool, cases_lt, le-leb, lt-leb, leb-true, leb-false, ne_eqb}
+use Rattle.std.proofs.lemmas.List.{append-nil}
 use Rattle.std.proofs.lemmas.List.Elements.{All-head, All-tail, filter-append}
 use Rattle.vx_episode.specs.Batches.{Fate, Judged, Waiting, is_to, queued_to, unless_failed, queue_cycle, fails_by, judged, waiting_of, waiting_as, served_in_turn}
 use Rattle.vx_episode.specs.Batches.Fate.{Good, Fails, Unknown}
@@ -241,13 +242,9 @@ module _ (last : ℕ) where
   abbrev waiting_by : List Judged → List Waiting
   waiting_by js = filter (is_up_to number_of last) (flat_map waiting_of (reverse js))
 
-  no-more : {A : Type 0} (items : List A) → items ++ [] ≡ items
-  no-more [] = refl
-  no-more (a ∷ items) = ap (λ (rest : List _). a ∷ rest) (no-more items)
-
   waiting-end : (js : List Judged) (j : Judged) → waiting_by (j ∷ js) ≡ waiting_by js ++ filter (is_up_to number_of last) (waiting_of j)
   waiting-end js j =
-      ap (filter (is_up_to number_of last)) (queue-end js j ∙ ap (λ (ws : List Waiting). flat_map waiting_of (reverse js) ++ ws) (no-more (waiting_of j)))
+      ap (filter (is_up_to number_of last)) (queue-end js j ∙ ap (λ (ws : List Waiting). flat_map waiting_of (reverse js) ++ ws) (append-nil (waiting_of j)))
       ∙ filter-append (is_up_to number_of last) (flat_map waiting_of (reverse js)) (waiting_of j)
 
   waiting-alike : (js ks : List Judged) → AreAlike js ks → waiting_by js ≡ waiting_by ks

@@ -2,7 +2,7 @@
 use Rattle.std.proofs.Common.{◌≡◌, ℕ, ◌+◌, ◌<◌, ◌≤◌, Bool, true, false, inl, inr, Some, List, [], ◌∷◌, ◌++◌, reverse, length, get_or, refl, sym, ap, ◌∙◌, subst, arith, append_assoc}
 use Rattle.std.specs.Prelude.{nat_le, map, find, flat_map, All, option_map, slice_get}
 use Rattle.std.specs.List.{list_any, AllPass}
-use Rattle.std.proofs.lemmas.List.{reverse-append, length_push}
+use Rattle.std.proofs.lemmas.List.{append-nil, reverse-append, length_push}
 use Rattle.std.proofs.lemmas.Bool.{cases_Bool, cond_both, leb-true}
 use Rattle.std.proofs.lemmas.List.Elements.{All-head, All-tail, All-cons, All-append}
 use Rattle.vx_episode.specs.Batches.{Fate, Judged, Waiting, is_to, queued_to, unless_failed, queue_cycle, fails_by, is_failing, failure_of, judged, is_queued, never_queued, lowest_failure, waiting_of, waiting_as, queue_of, served_in_turn, served_at, serve_cycle}
@@ -190,13 +190,9 @@ forward : (Access → Fate) → List Judged → List Access → List Judged
 forward fate js [] = []
 forward fate js (a ∷ accesses) = as_judged a (fate a) (queue_cycle js (fate a)) ∷ forward fate (as_judged a (fate a) (queue_cycle js (fate a)) ∷ js) accesses
 
-no-more : {A : Type 0} (items : List A) → items ++ [] ≡ items
-no-more [] = refl
-no-more {A} (a ∷ items) = ap (λ (rest : List A). a ∷ rest) (no-more items)
-
 reverse-judged : (fate : Access → Fate) (js : List Judged) (accesses : List Access) → reverse (judged fate js accesses) ≡ reverse js ++ forward fate js accesses
 unfolding forward
-reverse-judged fate js [] = sym (no-more (reverse js))
+reverse-judged fate js [] = sym (append-nil (reverse js))
 reverse-judged fate js (a ∷ accesses) =
     let j = as_judged a (fate a) (queue_cycle js (fate a)) in
     reverse-judged fate (j ∷ js) accesses
