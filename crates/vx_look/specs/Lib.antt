@@ -1,1 +1,4 @@
+pub mod Fates
 pub mod Fetches
+pub mod Filled
+pub mod LookUps
