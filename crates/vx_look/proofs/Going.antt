@@ -13,7 +13,7 @@ use Rattle.vx_episode.specs.Organisation.{Start}
 use Rattle.vx_look.proofs.Judging.{fate, fate-own, walks_with-known, walks_with-unknown, walks_of-one}
 use Rattle.vx_look.proofs.Orders.{after_walks-joined, after_walks-swapped, pages_of-after_walks}
 use Rattle.vx_look.specs.Fates.{told}
-use Rattle.vx_look.specs.LookUps.{AreReady, AreLookedUp, AreLookedUpBy}
+use Rattle.vx_look.specs.LookUps.{AreReady, AreLookedUp, AreLookedUpBy, IsWalked}
 use Rattle.vx_look.specs.declared.fate.Fate.{Fate}
 use Rattle.vx_tables.specs.Caches.{Fill, filled_by}
 use Rattle.vx_tables.specs.Residency.{Residency, pages_of}
@@ -33,14 +33,6 @@ after_walks-middle residency walks fetched others =
     after_walks-joined residency (walks ++ fetched) others
     ∙ after_walks-swapped (after_walks residency others) walks fetched
     ∙ sym (after_walks-joined residency (fetched ++ walks) others)
-
--- the cache and the tables once these walks of a batch were made
-pub record IsWalked (start : Start) (history : History) (earlier : List BatchTimes) (root : ℕ) (walks : List Walk) (places : List (Option Kept)) (before after : CellsState) : Type 0 where
-  pub kept : StandsFor places (fills_of (walks ++ walks_of_batches earlier))
-  pub held : AreHeld after root (after_walks start.residency (walks ++ fetch_walks history ++ walks_of_batches earlier))
-  pub frames : after.frames ≡ before.frames
-  pub cycle : after.cycle ≡ before.cycle
-  pub others : SameBut root (table_count (pages_of start.residency)) before.contents after.contents
 
 module _ (start : Start) (history : History) (earlier : List BatchTimes) (want : Want) (started root : ℕ) where
   pub IsWalked-none : (places : List (Option Kept)) (cells : CellsState) → AreReady start history earlier root places cells → IsWalked start history earlier root [] places cells cells

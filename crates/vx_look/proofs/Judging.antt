@@ -9,6 +9,7 @@ use Rattle.vx_episode.specs.Batches.Fate.{Good, Fails, Unknown}
 use Rattle.vx_episode.specs.Footprint.{Access}
 use Rattle.vx_episode.specs.History.{History, Walk, BatchTimes}
 use Rattle.vx_episode.specs.Organisation.{Start}
+use Rattle.vx_look.specs.LookUps.{updated}
 use Rattle.vx_tables.specs.declared.look.Look.{Look}
 use Rattle.vx_tables.specs.declared.look.Look.TheVariants.{Hit, Denied, Miss}
 use Rattle.vx_tables.specs.declared.walked.Walked.{Walked}
@@ -31,10 +32,6 @@ none-looked started walks a Miss unknown = none-by_walk a (find (is_of_page (pag
 none-judged : (started : ℕ) (walks : List Walk) (a : Access) (refused : Bool) (l : Look) → is_unknown (if refused then Fails started false else fate_looked started walks a l) ≡ true → find (is_of_page (page_of a.address)) walks ≡ None
 none-judged started walks a true l unknown = absurd (false≢true unknown)
 none-judged started walks a false l unknown = none-looked started walks a l unknown
-
--- the fate of an access once a page is walked
-abbrev pub updated : (page ended : ℕ) → Walked → Access → Fate → Fate
-updated page ended answered a fate = if is_unknown fate && page_of a.address == page then fate_walked a ended answered else fate
 
 and-false : (b : Bool) → (b && false) ≡ false
 and-false true = refl

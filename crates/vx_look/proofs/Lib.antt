@@ -4,3 +4,6 @@ pub mod Caught
 pub mod Judging
 pub mod Going
 pub mod Beginning
+pub mod Batched
+pub mod Settled
+pub mod Reached

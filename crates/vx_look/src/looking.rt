@@ -1,4 +1,4 @@
-ghost use Rattle.std.specs.Prelude.{◌≡◌, ◌==◌, ◌+◌, ◌*◌, ◌^◌, ◌<◌, [], ◌∷◌, List, IfOk};
+ghost use Rattle.std.specs.Prelude.{◌≡◌, ℕ, ◌==◌, ◌+◌, ◌*◌, ◌^◌, ◌<◌, ◌≤◌, [], ◌∷◌, List, IfOk, length, slice_index_or};
 ghost use Rattle.vx_cells.specs.Cells.{CellsState};
 ghost use Rattle.vx_episode.specs.Batches.{word_in, fate_walked, fate_of, is_unknown};
 ghost use Rattle.vx_episode.specs.Footprint.{Access};
@@ -6,11 +6,13 @@ ghost use Rattle.vx_episode.specs.History.{History, BatchTimes, walks_of_batches
 ghost use Rattle.vx_episode.specs.Organisation.{Start, data_entries};
 ghost use Rattle.vx_look.specs.Fates.{told, IsHitBelow};
 ghost use Rattle.vx_look.specs.Filled.{IsFilled, IsFoundBelow};
-ghost use Rattle.vx_look.specs.LookUps.{AreLookedUp, AreReady};
+ghost use Rattle.vx_look.specs.LookUps.{AreLookedUp, AreOf, AreReady};
 ghost use Rattle.vx_tables.specs.Caches.{Fill, look_up};
 ghost use Rattle.vx_tables.specs.Walking.{HaveTables};
 ghost use Rattle.vx_tlb.specs.Kept.{StandsFor};
+ghost use Rattle.vx_vaddr.specs.declared.item.Item.{Item};
 
+use crate::batches::{look_each, walk_each};
 use crate::fate::{Fate, Looked};
 use crate::pages::{PAGE_BYTES, is_aligned, is_canonical, walk_and_keep};
 use std::alloc::{AllocError, Global};
@@ -19,6 +21,7 @@ use vx_base::Want;
 use vx_cells::Cells;
 use vx_tables::{Look, Walked};
 use vx_tlb::Tlb;
+use vx_vaddr::Item;
 
 /// How many pages are kept.
 const ENTRIES: u32 = 32;
@@ -59,7 +62,7 @@ fn word_in(frame: u32, address: u64) -> u32
 }
 
 /// What is known of an access by the look-up at its batch's start.
-fn fate_looked(tlb: &Tlb, want: Want, started: u64, address: u64, width: u64) -> Fate
+pub fn fate_looked(tlb: &Tlb, want: Want, started: u64, address: u64, width: u64) -> Fate
     requires width { 0 < width }
     requires filled { IsFilled 32 tlb.now }
     ensures { (start : Start) (history : History) (earlier : List BatchTimes) (a : Access) → a.address ≡ address → a.width ≡ width
@@ -79,7 +82,7 @@ fn fate_looked(tlb: &Tlb, want: Want, started: u64, address: u64, width: u64) ->
 }
 
 /// What is known of an access by the walk of its page.
-fn fate_walked(walked: Walked, ended: u64, address: u64) -> Fate
+pub fn fate_walked(walked: Walked, ended: u64, address: u64) -> Fate
     requires { IsFoundBelow 16384 walked }
     ensures { (a : Access) → a.address ≡ address → told result ≡ fate_walked a ended walked }
 {
@@ -91,7 +94,7 @@ fn fate_walked(walked: Walked, ended: u64, address: u64) -> Fate
 }
 
 /// Whether nothing is known of an access.
-fn is_unknown(fate: Fate) -> bool
+pub fn is_unknown(fate: Fate) -> bool
     ensures { result ≡ is_unknown (told fate) }
 {
     match fate {
@@ -149,5 +152,42 @@ impl DataLookUps {
             fate: fate_walked(answer, ended, address),
             ended,
         }
+    }
+
+    /// A batch of up to 8 accesses that starts at a cycle: what is known of each, and the cycle at which its look-ups and walks end.
+    /// All are looked up before the first walk; then the page of each that missed is walked unless it was for a lower one, and no walk
+    /// begins behind an access that is known to fail. The walks' accesses are made at the cells' current cycle. The cells hold the
+    /// process's tables.
+    pub fn look_all<C: Cells>(
+        &mut self,
+        cells: &mut C,
+        root: u32,
+        bank_time: u64,
+        want: Want,
+        started: u64,
+        items: &[Item],
+        fates: &mut [Fate],
+    ) -> u64
+        requires tables { HaveTables (C.state cells.old) root }
+        requires few { length items.now ≤ 8 }
+        requires widths { (k : ℕ) (e : Item) → k < length items.now → 0 < (slice_index_or items.now k e).width }
+        requires count { length fates.old ≡ length items.now }
+        requires cycles { started + 32 * bank_time < 2 ^ 64 }
+        ensures count { length fates.new ≡ length fates.old }
+        ensures looked { (start : Start) (history : History) (earlier : List BatchTimes) (accesses : List Access) → start.machine.bank_time ≡ bank_time → AreOf items.now accesses
+            → AreReady start history earlier root self.old (C.state cells.old)
+            → AreLookedUp start history earlier want started accesses root self.new (C.state cells.old) (C.state cells.new) fates.new result }
+    {
+        look_each(&self.tlb, want, started, items, fates);
+        walk_each(
+            &mut self.tlb,
+            cells,
+            root,
+            bank_time,
+            want,
+            started,
+            items,
+            fates,
+        )
     }
 }
