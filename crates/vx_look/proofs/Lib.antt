@@ -7,3 +7,5 @@ pub mod Beginning
 pub mod Batched
 pub mod Settled
 pub mod Reached
+pub mod Late
+pub mod Sooner

@@ -50,10 +50,10 @@ module _ (start : Start) (history : History) (earlier : List BatchTimes) (want :
     abbrev judged_walks : List Walk
     judged_walks = walks_with start history earlier want started walks a
 
-    walks-stop : is_failing (fate_of start history earlier want started judged_walks a) ≡ true → walks_of start history earlier want started walks (a ∷ others) ≡ judged_walks
+    pub walks-stop : is_failing (fate_of start history earlier want started judged_walks a) ≡ true → walks_of start history earlier want started walks (a ∷ others) ≡ judged_walks
     walks-stop fails = ap (λ (b : Bool). elim b as (λ _. List Walk) [ true ↦ judged_walks | false ↦ walks_of start history earlier want started judged_walks others ]) fails
 
-    walks-go : is_failing (fate_of start history earlier want started judged_walks a) ≡ false → walks_of start history earlier want started walks (a ∷ others) ≡ walks_of start history earlier want started judged_walks others
+    pub walks-go : is_failing (fate_of start history earlier want started judged_walks a) ≡ false → walks_of start history earlier want started walks (a ∷ others) ≡ walks_of start history earlier want started judged_walks others
     walks-go goes = ap (λ (b : Bool). elim b as (λ _. List Walk) [ true ↦ judged_walks | false ↦ walks_of start history earlier want started judged_walks others ]) goes
 
   module _ (places now : List (Option Kept)) (before between after : CellsState) (known later : List Fate) (last ended i : ℕ)
@@ -65,26 +65,26 @@ module _ (start : Start) (history : History) (earlier : List BatchTimes) (want :
     abbrev with_one : List Walk
     with_one = walks_with start history earlier want started reached.walks one
 
-    rest-is : walks_of start history earlier want started [] accesses ≡ walks_of start history earlier want started reached.walks (one ∷ drop (suc i) accesses)
-    rest-is =
+    pub reached-rest : walks_of start history earlier want started [] accesses ≡ walks_of start history earlier want started reached.walks (one ∷ drop (suc i) accesses)
+    reached-rest =
         let count : length later ≡ length accesses = same-length Fate Access Meant told (fate_of start history earlier want started with_one) later accesses going.fates in
         reached.rest ∙ ap (walks_of start history earlier want started reached.walks) (drop-cons accesses i no_access (omega (arith, count)))
 
-    fate-is : (d : Fate) → told (get_or later i d) ≡ fate_of start history earlier want started with_one one
-    fate-is d = at-each Fate Access Meant told (fate_of start history earlier want started with_one) later accesses going.fates i d no_access within
+    pub reached-fate : (d : Fate) → told (get_or later i d) ≡ fate_of start history earlier want started with_one one
+    reached-fate d = at-each Fate Access Meant told (fate_of start history earlier want started with_one) later accesses going.fates i d no_access within
 
     pub reached-stop : (d : Fate) → is_failing (told (get_or later i d)) ≡ true → AreLookedUp start history earlier want started accesses root now before after later ended
     reached-stop d fails =
         ended-by with_one now before after later ended going
-        (rest-is ∙ walks-stop reached.walks one (drop (suc i) accesses) (ap is_failing (sym (fate-is d)) ∙ fails))
+        (reached-rest ∙ walks-stop reached.walks one (drop (suc i) accesses) (ap is_failing (sym (reached-fate d)) ∙ fails))
 
-    pub reached-more : (d : Fate) → is_failing (told (get_or later i d)) ≡ false → IsReached start history earlier want started accesses root now before after later ended (i + 1)
-    reached-more d goes = record {
-      walks = with_one;
-      going = going;
-      rest = rest-is ∙ walks-go reached.walks one (drop (suc i) accesses) (ap is_failing (sym (fate-is d)) ∙ goes)
-          ∙ ap (λ (n : ℕ). walks_of start history earlier want started with_one (drop n accesses)) (next i);
-    }
+    pub reached-go : (d : Fate) → is_failing (told (get_or later i d)) ≡ false → walks_of start history earlier want started [] accesses ≡ walks_of start history earlier want started with_one (drop (i + 1) accesses)
+    reached-go d goes =
+        reached-rest ∙ walks-go reached.walks one (drop (suc i) accesses) (ap is_failing (sym (reached-fate d)) ∙ goes)
+        ∙ ap (λ (n : ℕ). walks_of start history earlier want started with_one (drop n accesses)) (next i)
       where
         next : (k : ℕ) → suc k ≡ k + 1
         next k = omega arith
+
+    pub reached-more : (d : Fate) → is_failing (told (get_or later i d)) ≡ false → IsReached start history earlier want started accesses root now before after later ended (i + 1)
+    reached-more d goes = record { walks = with_one; going = going; rest = reached-go d goes }

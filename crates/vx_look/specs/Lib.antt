@@ -1,3 +1,4 @@
+pub mod Aheads
 pub mod Fates
 pub mod Fetches
 pub mod Filled

@@ -23,7 +23,7 @@ use vx_tlb::Tlb;
 use vx_vaddr::Item;
 
 /// Whether an access is known to fail.
-fn is_failing(fate: Fate) -> bool
+pub fn is_failing(fate: Fate) -> bool
     ensures { result ≡ is_failing (told fate) }
 {
     match fate {
@@ -76,7 +76,7 @@ pub fn look_each(tlb: &Tlb, want: Want, started: u64, items: &[Item], fates: &mu
 
 /// The walk of an access's page, which takes so long, where nothing is known of the access behind the walks of the batch so far.
 /// Answers when the last walk has ended.
-fn walk_missing<C: Cells>(
+pub fn walk_missing<C: Cells>(
     tlb: &mut Tlb,
     cells: &mut C,
     root: u32,

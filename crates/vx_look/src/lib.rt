@@ -5,6 +5,7 @@
 //! on the order of walks.
 #![tactic(auto)]
 
+mod ahead;
 mod batches;
 mod fate;
 mod fetching;

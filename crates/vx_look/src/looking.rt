@@ -4,6 +4,7 @@ ghost use Rattle.vx_episode.specs.Batches.{word_in, fate_walked, fate_of, is_unk
 ghost use Rattle.vx_episode.specs.Footprint.{Access};
 ghost use Rattle.vx_episode.specs.History.{History, BatchTimes, walks_of_batches, fills_of};
 ghost use Rattle.vx_episode.specs.Organisation.{Start, data_entries};
+ghost use Rattle.vx_look.specs.Aheads.{AreLookedAhead};
 ghost use Rattle.vx_look.specs.Fates.{told, IsHitBelow};
 ghost use Rattle.vx_look.specs.Filled.{IsFilled, IsFoundBelow};
 ghost use Rattle.vx_look.specs.LookUps.{AreLookedUp, AreOf, AreReady};
@@ -12,6 +13,7 @@ ghost use Rattle.vx_tables.specs.Walking.{HaveTables};
 ghost use Rattle.vx_tlb.specs.Kept.{StandsFor};
 ghost use Rattle.vx_vaddr.specs.declared.item.Item.{Item};
 
+use crate::ahead::walk_ahead;
 use crate::batches::{look_each, walk_each};
 use crate::fate::{Fate, Looked};
 use crate::pages::{PAGE_BYTES, is_aligned, is_canonical, walk_and_keep};
@@ -103,6 +105,21 @@ pub fn is_unknown(fate: Fate) -> bool
     }
 }
 
+/// An access of so many bytes at an address.
+fn item_of(address: u64, width: u8) -> Item
+    ensures address { result.address ≡ address }
+    ensures width { result.width ≡ width }
+{
+    Item {
+        element: 0,
+        field: 0,
+        address,
+        width,
+        register: 0,
+        byte: 0,
+    }
+}
+
 impl DataLookUps {
     /// An empty cache. It takes all its memory here.
     pub fn new(alloc: Global) -> Result<DataLookUps, AllocError>
@@ -189,5 +206,72 @@ impl DataLookUps {
             items,
             fates,
         )
+    }
+
+    /// The same of a batch behind whose `last` cycle nothing counts: only those walks are made that end by it, and what is known by
+    /// then is what all of them would tell. Answers when the last of these has ended.
+    pub fn look_ahead_all<C: Cells>(
+        &mut self,
+        cells: &mut C,
+        root: u32,
+        bank_time: u64,
+        want: Want,
+        started: u64,
+        items: &[Item],
+        fates: &mut [Fate],
+        last: u64,
+    ) -> u64
+        requires tables { HaveTables (C.state cells.old) root }
+        requires few { length items.now ≤ 8 }
+        requires widths { (k : ℕ) (e : Item) → k < length items.now → 0 < (slice_index_or items.now k e).width }
+        requires count { length fates.old ≡ length items.now }
+        requires cycles { started + 32 * bank_time < 2 ^ 64 }
+        ensures count { length fates.new ≡ length fates.old }
+        ensures looked { (start : Start) (history : History) (earlier : List BatchTimes) (accesses : List Access) → start.machine.bank_time ≡ bank_time → AreOf items.now accesses
+            → AreReady start history earlier root self.old (C.state cells.old)
+            → AreLookedAhead start history earlier want started accesses last root self.new (C.state cells.old) (C.state cells.new) fates.new result }
+    {
+        look_each(&self.tlb, want, started, items, fates);
+        walk_ahead(
+            &mut self.tlb,
+            cells,
+            root,
+            bank_time,
+            want,
+            started,
+            items,
+            fates,
+            last,
+        )
+    }
+
+    /// The same of a batch of one access.
+    pub fn look_ahead_one<C: Cells>(
+        &mut self,
+        cells: &mut C,
+        root: u32,
+        bank_time: u64,
+        want: Want,
+        started: u64,
+        address: u64,
+        width: u8,
+        last: u64,
+    ) -> Looked
+        requires tables { HaveTables (C.state cells.old) root }
+        requires width { 0 < width }
+        requires cycles { started + 32 * bank_time < 2 ^ 64 }
+        ensures { (start : Start) (history : History) (earlier : List BatchTimes) (a : Access) → start.machine.bank_time ≡ bank_time → a.address ≡ address → a.width ≡ width
+            → AreReady start history earlier root self.old (C.state cells.old)
+            → AreLookedAhead start history earlier want started (a ∷ []) last root self.new (C.state cells.old) (C.state cells.new) (result.fate ∷ []) result.ended }
+    {
+        let items = [item_of(address, width)];
+        let mut fates = [Fate::Unknown];
+        let ended = self.look_ahead_all(
+            cells, root, bank_time, want, started, &items, &mut fates, last,
+        );
+        Looked {
+            fate: fates[0],
+            ended,
+        }
     }
 }
