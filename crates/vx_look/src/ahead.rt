@@ -4,7 +4,7 @@ ghost use Rattle.vx_episode.specs.Footprint.{Access};
 ghost use Rattle.vx_episode.specs.History.{History, BatchTimes};
 ghost use Rattle.vx_episode.specs.Organisation.{Start};
 ghost use Rattle.vx_look.specs.Aheads.{AreLookedAhead};
-ghost use Rattle.vx_look.specs.Fates.{told};
+ghost use Rattle.vx_look.specs.Fates.{told, AreKnownBy};
 ghost use Rattle.vx_look.specs.Filled.{IsFilled};
 ghost use Rattle.vx_look.specs.LookUps.{AreOf, AreReady};
 ghost use Rattle.vx_tables.specs.Walking.{HaveTables};
@@ -41,6 +41,13 @@ pub fn walk_ahead<C: Cells>(
     requires few { length items.now ≤ 8 }
     requires count { length fates.old ≡ length items.now }
     requires cycles { started + 32 * bank_time < 2 ^ 64 }
+    requires known { AreKnownBy started fates.old }
+    ensures tables { HaveTables (C.state cells.new) root }
+    ensures frames { (C.state cells.new).frames ≡ (C.state cells.old).frames }
+    ensures cycle { (C.state cells.new).cycle ≡ (C.state cells.old).cycle }
+    ensures started { started ≤ result }
+    ensures ended { result ≤ started + 32 * bank_time }
+    ensures known { AreKnownBy result fates.new }
     ensures count { length fates.new ≡ length fates.old }
     ensures filled { (entries : ℕ) → IsFilled entries tlb.old → IsFilled entries tlb.new }
     ensures walked { (start : Start) (history : History) (earlier : List BatchTimes) (accesses : List Access) → start.machine.bank_time ≡ bank_time → AreOf items.now accesses

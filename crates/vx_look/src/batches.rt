@@ -5,7 +5,7 @@ ghost use Rattle.vx_episode.specs.Footprint.{Access};
 ghost use Rattle.vx_episode.specs.History.{History, BatchTimes, Walk, walks_of_batches, fills_of};
 ghost use Rattle.vx_episode.specs.Instructions.{walk_time};
 ghost use Rattle.vx_episode.specs.Organisation.{Start};
-ghost use Rattle.vx_look.specs.Fates.{told};
+ghost use Rattle.vx_look.specs.Fates.{told, IsKnownBy, AreKnownBy};
 ghost use Rattle.vx_look.specs.Filled.{IsFilled, IsFoundBelow};
 ghost use Rattle.vx_look.specs.LookUps.{AreGoing, AreLookedUp, AreOf, AreReady, no_access, updated};
 ghost use Rattle.vx_look.specs.declared.fate.Fate.{Fate};
@@ -35,7 +35,8 @@ pub fn is_failing(fate: Fate) -> bool
 /// What is known of an access once a page was walked.
 fn fate_settled(fate: Fate, address: u64, page: u64, ended: u64, walked: Walked) -> Fate
     requires { IsFoundBelow 16384 walked }
-    ensures { (a : Access) → a.address ≡ address → told result ≡ updated page ended walked a (told fate) }
+    ensures known { (before : ℕ) → before ≤ ended → IsKnownBy before fate → IsKnownBy ended result }
+    ensures settled { (a : Access) → a.address ≡ address → told result ≡ updated page ended walked a (told fate) }
 {
     if !is_unknown(fate) {
         return fate;
@@ -51,6 +52,7 @@ fn settle(items: &[Item], fates: &mut [Fate], page: u64, ended: u64, walked: Wal
     requires below { IsFoundBelow 16384 walked }
     requires count { length fates.old ≡ length items.now }
     ensures count { length fates.new ≡ length fates.old }
+    ensures known { (before : ℕ) → before ≤ ended → AreKnownBy before fates.old → AreKnownBy ended fates.new }
     ensures settled { (k : ℕ) (d : Fate) (e : Item) (a : Access) → k < length items.now → a.address ≡ (slice_index_or items.now k e).address
         → told (slice_index_or fates.new k d) ≡ updated page ended walked a (told (slice_index_or fates.old k d)) }
 {
@@ -65,6 +67,7 @@ pub fn look_each(tlb: &Tlb, want: Want, started: u64, items: &[Item], fates: &mu
     requires widths { (k : ℕ) (e : Item) → k < length items.now → 0 < (slice_index_or items.now k e).width }
     requires count { length fates.old ≡ length items.now }
     ensures count { length fates.new ≡ length fates.old }
+    ensures known { AreKnownBy started fates.new }
     ensures looked { (start : Start) (history : History) (earlier : List BatchTimes) (accesses : List Access) → AreOf items.now accesses
         → StandsFor tlb.now (fills_of (walks_of_batches earlier)) → map told fates.new ≡ map (fate_of start history earlier want started []) accesses }
 {
@@ -94,7 +97,11 @@ pub fn walk_missing<C: Cells>(
     ensures tables { HaveTables (C.state cells.new) root }
     ensures count { length fates.new ≡ length fates.old }
     ensures filled { (entries : ℕ) → IsFilled entries tlb.old → IsFilled entries tlb.new }
+    ensures frames { (C.state cells.new).frames ≡ (C.state cells.old).frames }
+    ensures cycle { (C.state cells.new).cycle ≡ (C.state cells.old).cycle }
+    ensures ended { ended ≤ result }
     ensures cycles { result ≤ ended + time }
+    ensures known { AreKnownBy ended fates.old → AreKnownBy result fates.new }
     ensures going { (start : Start) (history : History) (earlier : List BatchTimes) (started : ℕ) (accesses : List Access) (walks : List Walk) (before : CellsState) → time ≡ walk_time start.machine → AreOf items.now accesses
         → AreGoing start history earlier want started accesses root walks tlb.old before (C.state cells.old) fates.old ended
         → AreGoing start history earlier want started accesses root (walks_with start history earlier want started walks (slice_index_or accesses i no_access)) tlb.new before (C.state cells.new) fates.new result }
@@ -125,6 +132,13 @@ pub fn walk_each<C: Cells>(
     requires few { length items.now ≤ 8 }
     requires count { length fates.old ≡ length items.now }
     requires cycles { started + 32 * bank_time < 2 ^ 64 }
+    requires known { AreKnownBy started fates.old }
+    ensures tables { HaveTables (C.state cells.new) root }
+    ensures frames { (C.state cells.new).frames ≡ (C.state cells.old).frames }
+    ensures cycle { (C.state cells.new).cycle ≡ (C.state cells.old).cycle }
+    ensures started { started ≤ result }
+    ensures ended { result ≤ started + 32 * bank_time }
+    ensures known { AreKnownBy result fates.new }
     ensures count { length fates.new ≡ length fates.old }
     ensures filled { (entries : ℕ) → IsFilled entries tlb.old → IsFilled entries tlb.new }
     ensures walked { (start : Start) (history : History) (earlier : List BatchTimes) (accesses : List Access) → start.machine.bank_time ≡ bank_time → AreOf items.now accesses

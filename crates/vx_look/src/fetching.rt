@@ -1,4 +1,4 @@
-ghost use Rattle.std.specs.Prelude.{◌≡◌, ℕ, true, ◌&&◌, ◌+◌, ◌*◌, ◌^◌, ◌<◌, [], List, IfOk, MatchOption};
+ghost use Rattle.std.specs.Prelude.{◌≡◌, ℕ, true, ◌&&◌, ◌+◌, ◌*◌, ◌^◌, ◌<◌, ◌≤◌, [], List, IfOk, IfSome, max};
 ghost use Rattle.vx_base.specs.declared.machine.Want.TheVariants.{Fetch};
 ghost use Rattle.vx_episode.specs.History.{History, fetch_walks, fills_of};
 ghost use Rattle.vx_episode.specs.Instructions.{residency_now, walk_time};
@@ -121,6 +121,9 @@ impl FetchLookUps {
     fn walked<C: Cells>(&mut self, cells: &mut C, root: u32, pc: u64, ended: u64) -> Fetched
         requires { HaveTables (C.state cells.old) root }
         ensures ended { result.ended ≡ ended }
+        ensures tables { HaveTables (C.state cells.new) root }
+        ensures frames { (C.state cells.new).frames ≡ (C.state cells.old).frames }
+        ensures cycle { (C.state cells.new).cycle ≡ (C.state cells.old).cycle }
         ensures fetched { (start : Start) (history : History) (begun : ℕ) → ended ≡ begun + walk_time start.machine
             → (is_canonical pc && is_miss (look_up 8 (fills_of (fetch_walks history)) (page_of pc) Fetch)) ≡ true
             → StandsFor self.old (fills_of (fetch_walks history)) → AreHeld (C.state cells.old) root (residency_now start history)
@@ -147,7 +150,12 @@ impl FetchLookUps {
     ) -> Fetched
         requires tables { HaveTables (C.state cells.old) root }
         requires cycles { begun + 4 * bank_time < 2 ^ 64 }
-        ensures { (start : Start) (history : History) → start.machine.bank_time ≡ bank_time → StandsFor self.old (fills_of (fetch_walks history))
+        ensures tables { HaveTables (C.state cells.new) root }
+        ensures frames { (C.state cells.new).frames ≡ (C.state cells.old).frames }
+        ensures cycle { (C.state cells.new).cycle ≡ (C.state cells.old).cycle }
+        ensures begun { begun ≤ result.ended }
+        ensures ended { result.ended ≤ begun + 4 * bank_time }
+        ensures fetched { (start : Start) (history : History) → start.machine.bank_time ≡ bank_time → StandsFor self.old (fills_of (fetch_walks history))
             → AreHeld (C.state cells.old) root (residency_now start history)
             → IsFetched start history pc begun root self.new (C.state cells.old) (C.state cells.new) result }
     {
@@ -172,7 +180,11 @@ impl FetchLookUps {
     ) -> Option<Fetched>
         requires tables { HaveTables (C.state cells.old) root }
         requires cycles { 4 * bank_time < 2 ^ 64 }
-        ensures { (start : Start) (history : History) → start.machine.bank_time ≡ bank_time → StandsFor self.old (fills_of (fetch_walks history))
+        ensures tables { HaveTables (C.state cells.new) root }
+        ensures frames { (C.state cells.new).frames ≡ (C.state cells.old).frames }
+        ensures cycle { (C.state cells.new).cycle ≡ (C.state cells.old).cycle }
+        ensures ended { IfSome result (λ f. (begun ≤ f.ended) × (f.ended ≤ max begun last)) }
+        ensures fetched { (start : Start) (history : History) → start.machine.bank_time ≡ bank_time → StandsFor self.old (fills_of (fetch_walks history))
             → AreHeld (C.state cells.old) root (residency_now start history)
             → IsFetchedBy start history pc begun last root self.old self.new (C.state cells.old) (C.state cells.new) result }
     {

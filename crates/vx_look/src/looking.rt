@@ -5,7 +5,7 @@ ghost use Rattle.vx_episode.specs.Footprint.{Access};
 ghost use Rattle.vx_episode.specs.History.{History, BatchTimes, walks_of_batches, fills_of};
 ghost use Rattle.vx_episode.specs.Organisation.{Start, data_entries};
 ghost use Rattle.vx_look.specs.Aheads.{AreLookedAhead};
-ghost use Rattle.vx_look.specs.Fates.{told, IsHitBelow};
+ghost use Rattle.vx_look.specs.Fates.{told, IsHitBelow, IsKnownBy, AreKnownBy};
 ghost use Rattle.vx_look.specs.Filled.{IsFilled, IsFoundBelow};
 ghost use Rattle.vx_look.specs.LookUps.{AreLookedUp, AreOf, AreReady};
 ghost use Rattle.vx_tables.specs.Caches.{Fill, look_up};
@@ -67,7 +67,8 @@ fn word_in(frame: u32, address: u64) -> u32
 pub fn fate_looked(tlb: &Tlb, want: Want, started: u64, address: u64, width: u64) -> Fate
     requires width { 0 < width }
     requires filled { IsFilled 32 tlb.now }
-    ensures { (start : Start) (history : History) (earlier : List BatchTimes) (a : Access) → a.address ≡ address → a.width ≡ width
+    ensures known { IsKnownBy started result }
+    ensures looked { (start : Start) (history : History) (earlier : List BatchTimes) (a : Access) → a.address ≡ address → a.width ≡ width
         → StandsFor tlb.now (fills_of (walks_of_batches earlier)) → told result ≡ fate_of start history earlier want started [] a }
 {
     if !is_aligned(address, width) {
@@ -86,7 +87,8 @@ pub fn fate_looked(tlb: &Tlb, want: Want, started: u64, address: u64, width: u64
 /// What is known of an access by the walk of its page.
 pub fn fate_walked(walked: Walked, ended: u64, address: u64) -> Fate
     requires { IsFoundBelow 16384 walked }
-    ensures { (a : Access) → a.address ≡ address → told result ≡ fate_walked a ended walked }
+    ensures known { IsKnownBy ended result }
+    ensures walked { (a : Access) → a.address ≡ address → told result ≡ fate_walked a ended walked }
 {
     match walked {
         Walked::Leaf(frame, _, _) => Fate::Good(ended, word_in(frame, address)),
@@ -152,7 +154,13 @@ impl DataLookUps {
         requires tables { HaveTables (C.state cells.old) root }
         requires width { 0 < width }
         requires cycles { started + 4 * bank_time < 2 ^ 64 }
-        ensures { (start : Start) (history : History) (earlier : List BatchTimes) (a : Access) → start.machine.bank_time ≡ bank_time → a.address ≡ address → a.width ≡ width
+        ensures tables { HaveTables (C.state cells.new) root }
+        ensures frames { (C.state cells.new).frames ≡ (C.state cells.old).frames }
+        ensures cycle { (C.state cells.new).cycle ≡ (C.state cells.old).cycle }
+        ensures started { started ≤ result.ended }
+        ensures ended { result.ended ≤ started + 4 * bank_time }
+        ensures known { IsKnownBy result.ended result.fate }
+        ensures looked { (start : Start) (history : History) (earlier : List BatchTimes) (a : Access) → start.machine.bank_time ≡ bank_time → a.address ≡ address → a.width ≡ width
             → AreReady start history earlier root self.old (C.state cells.old)
             → AreLookedUp start history earlier want started (a ∷ []) root self.new (C.state cells.old) (C.state cells.new) (result.fate ∷ []) result.ended }
     {
@@ -191,6 +199,12 @@ impl DataLookUps {
         requires count { length fates.old ≡ length items.now }
         requires cycles { started + 32 * bank_time < 2 ^ 64 }
         ensures count { length fates.new ≡ length fates.old }
+        ensures tables { HaveTables (C.state cells.new) root }
+        ensures frames { (C.state cells.new).frames ≡ (C.state cells.old).frames }
+        ensures cycle { (C.state cells.new).cycle ≡ (C.state cells.old).cycle }
+        ensures started { started ≤ result }
+        ensures ended { result ≤ started + 32 * bank_time }
+        ensures known { AreKnownBy result fates.new }
         ensures looked { (start : Start) (history : History) (earlier : List BatchTimes) (accesses : List Access) → start.machine.bank_time ≡ bank_time → AreOf items.now accesses
             → AreReady start history earlier root self.old (C.state cells.old)
             → AreLookedUp start history earlier want started accesses root self.new (C.state cells.old) (C.state cells.new) fates.new result }
@@ -227,6 +241,12 @@ impl DataLookUps {
         requires count { length fates.old ≡ length items.now }
         requires cycles { started + 32 * bank_time < 2 ^ 64 }
         ensures count { length fates.new ≡ length fates.old }
+        ensures tables { HaveTables (C.state cells.new) root }
+        ensures frames { (C.state cells.new).frames ≡ (C.state cells.old).frames }
+        ensures cycle { (C.state cells.new).cycle ≡ (C.state cells.old).cycle }
+        ensures started { started ≤ result }
+        ensures ended { result ≤ started + 32 * bank_time }
+        ensures known { AreKnownBy result fates.new }
         ensures looked { (start : Start) (history : History) (earlier : List BatchTimes) (accesses : List Access) → start.machine.bank_time ≡ bank_time → AreOf items.now accesses
             → AreReady start history earlier root self.old (C.state cells.old)
             → AreLookedAhead start history earlier want started accesses last root self.new (C.state cells.old) (C.state cells.new) fates.new result }
@@ -260,7 +280,13 @@ impl DataLookUps {
         requires tables { HaveTables (C.state cells.old) root }
         requires width { 0 < width }
         requires cycles { started + 32 * bank_time < 2 ^ 64 }
-        ensures { (start : Start) (history : History) (earlier : List BatchTimes) (a : Access) → start.machine.bank_time ≡ bank_time → a.address ≡ address → a.width ≡ width
+        ensures tables { HaveTables (C.state cells.new) root }
+        ensures frames { (C.state cells.new).frames ≡ (C.state cells.old).frames }
+        ensures cycle { (C.state cells.new).cycle ≡ (C.state cells.old).cycle }
+        ensures started { started ≤ result.ended }
+        ensures ended { result.ended ≤ started + 32 * bank_time }
+        ensures known { IsKnownBy result.ended result.fate }
+        ensures looked { (start : Start) (history : History) (earlier : List BatchTimes) (a : Access) → start.machine.bank_time ≡ bank_time → a.address ≡ address → a.width ≡ width
             → AreReady start history earlier root self.old (C.state cells.old)
             → AreLookedAhead start history earlier want started (a ∷ []) last root self.new (C.state cells.old) (C.state cells.new) (result.fate ∷ []) result.ended }
     {

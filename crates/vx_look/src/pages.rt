@@ -66,6 +66,8 @@ pub fn walk_and_keep<C: Cells>(
     ensures kept { (fills : List Fill) → StandsFor tlb.old fills → StandsFor tlb.new (filled_by (page_of address) result fills) }
     ensures below { IsFoundBelow 16384 result }
     ensures tables { HaveTables (C.state cells.new) root }
+    ensures frames { (C.state cells.new).frames ≡ (C.state cells.old).frames }
+    ensures cycle { (C.state cells.new).cycle ≡ (C.state cells.old).cycle }
     ensures filled { (entries : ℕ) → IsFilled entries tlb.old → IsFilled entries tlb.new }
 {
     let answer = walk(cells, root, address, want);

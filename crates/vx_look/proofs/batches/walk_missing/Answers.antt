@@ -1,4 +1,4 @@
-use Rattle.std.proofs.Common.{ℕ, ◌+◌, ◌++◌, sym, ap}
+use Rattle.std.proofs.Common.{ℕ, ◌+◌, ◌≤◌, ◌++◌, sym, ap, arith}
 use Rattle.vx_episode.specs.History.{fetch_walks, walks_of_batches, after_walks}
 use Rattle.vx_look.proofs.Batched.{address-at, going-known, going-more}
 use Rattle.vx_look.proofs.batches.walk_missing.Goals as goal
@@ -16,3 +16,8 @@ returns-clause-going g c start history earlier started accesses walks before tim
     (address-at c.args.items.now accesses of c.args.i no_access _ c.requires.index)
     (c.walk_and_keep-walked.ensures.walks (after_walks start.residency (walks ++ fetch_walks history ++ walks_of_batches earlier)) going.walked.held)
     c.walk_and_keep-walked.ensures.kept (ap (λ (n : ℕ). c.args.ended + n) time) c.settle.ensures.count c.settle.ensures.settled
+
+pub returns-clause-known : goal.returns-clause-known
+returns-clause-known g c known =
+    let le : c.args.ended ≤ c.args.ended + c.args.time = omega arith in
+    c.settle.ensures.known c.args.ended le known

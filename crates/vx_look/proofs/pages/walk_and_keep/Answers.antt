@@ -25,3 +25,9 @@ returns-clause-tables g c = record {
   residency = after_walk c.requires.residency c.args.address c.args.want;
   held = (c.walk-answer.ensures c.requires.residency c.requires.held).held;
 }
+
+pub returns-clause-frames : goal.returns-clause-frames
+returns-clause-frames g c = (c.walk-answer.ensures c.requires.residency c.requires.held).makes.frames
+
+pub returns-clause-cycle : goal.returns-clause-cycle
+returns-clause-cycle g c = (c.walk-answer.ensures c.requires.residency c.requires.held).makes.cycle

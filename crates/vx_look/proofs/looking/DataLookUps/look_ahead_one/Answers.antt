@@ -8,8 +8,8 @@ single [] d one = absurd (omega (arith, one))
 single (x ∷ []) d one = refl
 single (x ∷ y ∷ ys) d one = absurd (omega (arith, one))
 
-pub returns : goal.returns
-returns g c start history earlier a bank at width ready =
+pub returns-clause-looked : goal.returns-clause-looked
+returns-clause-looked g c start history earlier a bank at width ready =
     subst (λ (known : List Fate). AreLookedAhead start history earlier c.args.want c.args.started (a ∷ []) c.args.last c.args.root c.look_ahead_all-ended.new.self (g.C.Cells.state c.args.cells.now) (g.C.Cells.state c.look_ahead_all-ended.new.cells) known c.look_ahead_all-ended.result)
     (single c.look_ahead_all-ended.new.fates _ c.look_ahead_all-ended.ensures.count)
     (c.look_ahead_all-ended.ensures.looked start history earlier (a ∷ []) bank
