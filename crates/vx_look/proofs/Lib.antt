@@ -1,0 +1,11 @@
+pub mod Orders
+pub mod PageMaps
+pub mod Caught
+pub mod Judging
+pub mod Going
+pub mod Beginning
+pub mod Batched
+pub mod Settled
+pub mod Reached
+pub mod Late
+pub mod Sooner
