@@ -1,0 +1,9 @@
+pub mod Accesses
+pub mod Found
+pub mod InTurn
+pub mod Left
+pub mod Masks
+pub mod Ranges
+pub mod Shown
+pub mod Stored
+pub mod Words
