@@ -1,0 +1,10 @@
+pub mod Pages
+pub mod Between
+pub mod Stored
+pub mod Next
+pub mod Within
+pub mod Loads
+pub mod Prefixes
+pub mod Steps
+pub mod Footprints
+pub mod Outcomes
