@@ -15,7 +15,7 @@ use Rattle.vx_paged.proofs.Shown.{rising}
 abbrev AreRising : List FramedPage → Type 0
 AreRising placement = (i j : ℕ) (d : FramedPage) → i < j → j < length placement → (get_or placement i d).entry.page < (get_or placement j d).entry.page
 
-framed_at : (placement : List FramedPage) → AreRising placement → (number k : ℕ) (d : FramedPage) → k < length placement → (get_or placement k d).entry.page ≡ number → framed number placement ≡ Some (get_or placement k d)
+pub framed_at : (placement : List FramedPage) → AreRising placement → (number k : ℕ) (d : FramedPage) → k < length placement → (get_or placement k d).entry.page ≡ number → framed number placement ≡ Some (get_or placement k d)
 framed_at [] rise number k d below same = absurd (omega arith)
 framed_at (p ∷ placement) rise number zero d below same = rw (eq-eqb p.entry.page number same) refl
 framed_at (p ∷ placement) rise number (suc k) d below same =

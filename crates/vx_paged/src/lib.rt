@@ -6,8 +6,10 @@
 #![tactic(auto)]
 
 mod bytes;
+mod laws;
 mod paged;
 mod placement;
 
+pub use laws::{pages_are_placed_in_turn, shown_memory_is_alike, tables_stay};
 pub use paged::Paged;
 pub use placement::{FramedPage, Placement};
