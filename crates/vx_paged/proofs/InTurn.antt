@@ -2,7 +2,7 @@
 use Rattle.std.proofs.Common.{◌≡◌, ℕ, zero, suc, ◌+◌, ◌<◌, ◌≤◌, List, [], ◌∷◌, ◌++◌, length, get_or, take, map, refl, sym, ap, subst, ◌∙◌, add-zero, arith}
 use Rattle.vx_base.specs.Pages.{IsPageList}
 use Rattle.vx_base.specs.declared.perm.PageEntry.{PageEntry}
-use Rattle.vx_paged.specs.Framed.{IsPlacement, entries_of, in_turn}
+use Rattle.vx_paged.specs.Framed.{IsPlacement, IsWithin, entries_of, in_turn}
 use Rattle.vx_paged.specs.declared.placement.FramedPage.{FramedPage}
 
 pub entries-in_turn : (first : ℕ) (pages : List PageEntry) → entries_of (in_turn first pages) ≡ pages
@@ -39,3 +39,8 @@ IsPlacement-in_turn first pages listed few =
       apart = λ i j d less below same. omega (arith, long, frame-in_turn first pages i d (omega (arith, long)), frame-in_turn first pages j d (omega (arith, long)), same);
       limit = λ k d below. omega (arith, long, frame-in_turn first pages k d (omega (arith, long)));
     }
+
+pub IsWithin-in_turn : (first : ℕ) (pages : List PageEntry) (frames : ℕ) → first + length pages ≤ frames → IsWithin frames (in_turn first pages)
+IsWithin-in_turn first pages frames few k d below =
+    let long = length-in_turn first pages in
+    omega (arith, long, frame-in_turn first pages k d (omega (arith, long)))

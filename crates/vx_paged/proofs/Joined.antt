@@ -47,7 +47,7 @@ found_alike number (p ∷ placement) (q ∷ residency) is =
     elim (cases_Bool (eqb p.entry.page number)) [
       | inl is_it ↦ rw (is_it, eq-eqb q.entry.page number (same ∙ eqb-true p.entry.page number is_it)) (head_frame p placement q residency is)
       | inr other ↦ rw (other, ne_eqb q.entry.page number (λ here. false≢true (sym other ∙ eq-eqb p.entry.page number (sym same ∙ here))))
-        (found_alike number placement residency (tail_of p placement q residency is))
+          (found_alike number placement residency (tail_of p placement q residency is))
     ]
 
 -- a page that is present in a frame is in that of the placement
@@ -135,7 +135,7 @@ unmapped number (page ∷ memory) (p ∷ placement) same missing =
     elim (cases_Bool (eqb p.entry.page number)) [
       | inl is_it ↦ let found = rw is_it at missing in cc
       | inr other ↦ rw (ne_eqb page.number number (λ here. false≢true (sym other ∙ eq-eqb p.entry.page number (sym numbers ∙ here))))
-        (unmapped number memory placement rest (rw other at missing))
+          (unmapped number memory placement rest (rw other at missing))
     ]
 
 module _ (placement : List FramedPage) (registers : Registers) (cells : CellsState) (first : ℕ) (residency : Residency) (s : Flat) (is : IsPlacedAs placement residency) where

@@ -1,4 +1,5 @@
 pub mod Accesses
+pub mod Booted
 pub mod Found
 pub mod InTurn
 pub mod Joined

@@ -124,15 +124,15 @@ module _ (whole : (old value : ℕ) → value < 2 ^ 64 → merged 255 old value 
       let values = words_small (suc k) k small (omega arith) 512 in
       elim (cases_Bool (ltb j k)) [
         | inl earlier ↦ let less = ltb-true j k earlier in
-          let apart = kept.apart j k d less (omega arith) in
-          ap (λ (ws : List ℕ). get_or ws (512 * (framed_at placement j).frame + w) 0) (one-page k)
-          ∙ words-outside whole (after_pages k) cycle (512 * (framed_at placement k).frame) (word_in (page_at pages k).bytes) 512 (512 * (framed_at placement j).frame + w) (λ i lt same. apart (omega arith)) values
-          ∙ held-pages k (omega arith) before j w less inside
+            let apart = kept.apart j k d less (omega arith) in
+            ap (λ (ws : List ℕ). get_or ws (512 * (framed_at placement j).frame + w) 0) (one-page k)
+            ∙ words-outside whole (after_pages k) cycle (512 * (framed_at placement k).frame) (word_in (page_at pages k).bytes) 512 (512 * (framed_at placement j).frame + w) (λ i lt same. apart (omega arith)) values
+            ∙ held-pages k (omega arith) before j w less inside
         | inr last ↦ let here : j ≡ k = omega (arith, ltb-false j k last) in
-          ap (λ (n : ℕ). get_or (after_pages (suc k)) (512 * (framed_at placement n).frame + w) 0) here
-          ∙ ap (λ (ws : List ℕ). get_or ws (512 * (framed_at placement k).frame + w) 0) (one-page k)
-          ∙ words-inside whole (after_pages k) cycle (512 * (framed_at placement k).frame) (word_in (page_at pages k).bytes) 512 w inside (omega (arith, size, room, long)) values
-          ∙ ap (λ (n : ℕ). word_in (page_at pages n).bytes w) (sym here)
+            ap (λ (n : ℕ). get_or (after_pages (suc k)) (512 * (framed_at placement n).frame + w) 0) here
+            ∙ ap (λ (ws : List ℕ). get_or ws (512 * (framed_at placement k).frame + w) 0) (one-page k)
+            ∙ words-inside whole (after_pages k) cycle (512 * (framed_at placement k).frame) (word_in (page_at pages k).bytes) 512 w inside (omega (arith, size, room, long)) values
+            ∙ ap (λ (n : ℕ). word_in (page_at pages n).bytes w) (sym here)
       ]
 
   -- words of a page's frame that are written leave the others
@@ -176,3 +176,27 @@ module _ (whole : (old value : ℕ) → value < 2 ^ 64 → merged 255 old value 
       from_is (byte_of_words (after_pages (length placement))) (4096 * (framed_at placement k).frame) 4096 (page_at pages k).bytes
       (sizes k (record { number = 0; permissions = 0; bytes = [] }) (omega (arith, same_count placement pages same)))
       (λ j inside. byte_at-page small k j below inside))
+
+-- ---- an image's pages by their places
+
+pub count_is : (placement : List FramedPage) (pages : Memory) (entries : List PageEntry) (bytes : List ℕ) → entries_of placement ≡ map entry_of_page pages → pages ≡ pages_of entries bytes → length placement ≡ length entries
+count_is placement pages entries bytes same is =
+    sym (length-placed placement) ∙ ap length (same ∙ ap (map entry_of_page) is ∙ kept-entries entries bytes)
+
+pub bytes_of_page : (pages : Memory) (entries : List PageEntry) (bytes : List ℕ) (k step : ℕ) → pages ≡ pages_of entries bytes → k < length entries → step ≡ 4096 → take step (drop (4096 * k) bytes) ≡ (page_at pages k).bytes
+bytes_of_page pages entries bytes k step is below wide =
+    ap (λ (n : ℕ). take n (drop (4096 * k) bytes)) wide
+    ∙ sym (ap (λ (m : Memory). (page_at m k).bytes) is ∙ kept-bytes entries bytes k (record { number = 0; permissions = 0; bytes = [] }) below)
+
+pub whole_of : (pages : Memory) (entries : List PageEntry) (bytes : List ℕ) → pages ≡ pages_of entries bytes → length bytes ≡ 4096 * length entries → IsWhole pages
+whole_of pages entries bytes is long = subst IsWhole (sym is) (kept-whole entries bytes long)
+
+-- one page's bytes more are small
+pub small-more : (pages : Memory) (i : ℕ) (bytes : List ℕ) → ((k : ℕ) → k < i → (j : ℕ) → get_or (page_at pages k).bytes j 0 < 256) → bytes ≡ (page_at pages i).bytes → ((j : ℕ) → get_or bytes j 0 < 256) → (k : ℕ) → k < i + 1 → (j : ℕ) → get_or (page_at pages k).bytes j 0 < 256
+small-more pages i bytes before is small k below j =
+    elim (cases_Bool (ltb k i)) [
+      | inl earlier ↦ before k (ltb-true k i earlier) j
+      | inr last ↦ let here : k ≡ i = omega (arith, ltb-false k i last) in
+          let same : get_or bytes j 0 ≡ get_or (page_at pages k).bytes j 0 = ap (λ (bs : List ℕ). get_or bs j 0) is ∙ ap (λ (n : ℕ). get_or (page_at pages n).bytes j 0) (sym here) in
+          omega (arith, same, small j)
+    ]

@@ -93,7 +93,6 @@ at_place f (suc (suc (suc (suc (suc (suc zero)))))) h = refl
 at_place f (suc (suc (suc (suc (suc (suc (suc zero))))))) h = refl
 at_place f (suc (suc (suc (suc (suc (suc (suc (suc j)))))))) h = absurd (omega arith)
 
-
 -- a byte of the word that eight bytes are
 pub word_byte : (bytes : List ℕ) (w j : ℕ) → j < 8 → ((i : ℕ) → get_or bytes i 0 < 256) → field (word_in bytes w) (8 * j) 8 ≡ get_or bytes (8 * w + j) 0
 word_byte bytes w j within small =

@@ -5,11 +5,13 @@
 //! physical memory whose pages are where a placement says.
 #![tactic(auto)]
 
+mod boot;
 mod bytes;
 mod laws;
 mod paged;
 mod placement;
 
+pub use boot::{boot_pages, place_pages};
 pub use laws::{pages_are_placed_in_turn, shown_memory_is_alike, tables_stay};
 pub use paged::Paged;
 pub use placement::{FramedPage, Placement};
