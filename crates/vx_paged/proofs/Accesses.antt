@@ -15,7 +15,7 @@ use Rattle.vx_paged.specs.Granted.{IsGrantedIn, Serves}
 use Rattle.vx_paged.specs.Left.{is_framed, blanked}
 use Rattle.vx_paged.specs.declared.placement.FramedPage.{FramedPage}
 use Rattle.vx_paged.proofs.Left.{blanked-set, is_framed-at}
-use Rattle.vx_paged.proofs.Shown.{IsAt, IsOnly, place_in, permits_there, denied_there, byte_there, only, put_all, shown_same, shown_by, changes}
+use Rattle.vx_paged.proofs.Shown.{IsOnly, place_in, permits_there, denied_there, byte_there, only, put_all, shown_same, changes}
 use Rattle.vx_paged.proofs.Stored.{AreMerged, Names, written}
 use Rattle.vx_paged.proofs.Words.{number_is, bytes_are, length-little_endian}
 use Rattle.vx_scalar.specs.Operands.{is_access_width}

@@ -1,28 +1,25 @@
 -- An image on physical memory: its tables, and its pages behind them.
-use Rattle.std.proofs.Common.{◌≡◌, ℕ, zero, suc, ◌+◌, ◌*◌, ◌<◌, ◌≤◌, Bool, List, [], ◌∷◌, ◌++◌, length, get_or, map, Some, refl, sym, ap, subst, ◌∙◌, inl, inr, arith}
-use Rattle.std.specs.Prelude.{Option}
+use Rattle.std.proofs.Common.{◌≡◌, ℕ, suc, ◌+◌, ◌<◌, ◌≤◌, List, [], ◌∷◌, length, get_or, map, Some, refl, sym, ap, subst, ◌∙◌, inr, arith}
 use Rattle.vx_base.specs.Pages.{IsPageList}
 use Rattle.vx_base.specs.declared.perm.PageEntry.{PageEntry}
 use Rattle.vx_cells.specs.Cells.{CellsState, IsMemory, Makes}
-use Rattle.vx_episode.specs.Show.{IsAlone, Registers, Shows}
 use Rattle.vx_flat.specs.State.{Flat}
 use Rattle.vx_image.specs.Images.{entry_of_page}
 use Rattle.vx_image.specs.Pages.{Memory}
 use Rattle.vx_image.specs.Tables.{table_frames}
 use Rattle.vx_paged.specs.Booting.{Boots, page_frame, page_writes, residency_at}
-use Rattle.vx_paged.specs.Framed.{IsPlacement, IsWithin, entries_of, framed, in_turn, shown}
-use Rattle.vx_paged.specs.Left.{Fits, rest_of}
+use Rattle.vx_paged.specs.Framed.{IsPlacement, IsWithin, in_turn, shown}
+use Rattle.vx_paged.specs.Left.{rest_of}
 use Rattle.vx_paged.specs.Placed.{AreAlone, IsPlacedAs}
 use Rattle.vx_paged.specs.declared.placement.FramedPage.{FramedPage}
 use Rattle.vx_paged.proofs.InTurn.{entries-in_turn, length-in_turn, frame-in_turn, IsPlacement-in_turn, IsWithin-in_turn}
-use Rattle.vx_paged.proofs.Joined.{IsFramedIn, IsPlacedAs-boot, alike_back, framed_there}
+use Rattle.vx_paged.proofs.Joined.{IsPlacedAs-boot, alike_back, framed_there}
 use Rattle.vx_paged.proofs.Shown.{IsAt, place_in}
 use Rattle.vx_paged.proofs.Staying.{held_stays}
 use Rattle.vx_paged.proofs.Turns.{Joins}
 use Rattle.vx_pending.specs.Alike.{AreAlike}
 use Rattle.vx_tables.specs.Building.{Builds, table_writes}
-use Rattle.vx_tables.specs.Residency.{PlacedPage, Residency, pages_of, at_boot, placed, IsOf}
-use Rattle.vx_tables.specs.Residency.Place.{Present}
+use Rattle.vx_tables.specs.Residency.{Residency, pages_of, at_boot, placed, IsOf}
 use Rattle.vx_tables.specs.Tables.{AreHeld, table_count}
 
 -- a page in a frame in turn stands at the place behind the first that the frame is

@@ -1,13 +1,13 @@
 -- A placement and a residency that say the same.
-use Rattle.std.proofs.Common.{◌≡◌, ℕ, zero, suc, ◌+◌, ◌-◌, ◌*◌, ◌/◌, ◌%◌, ◌^◌, ◌<◌, ◌≤◌, Bool, true, false, eqb, List, [], ◌∷◌, length, get_or, map, Some, None, refl, sym, ap, subst, ◌∙◌, inl, inr, IsTrue, arith}
-use Rattle.std.specs.Prelude.{Option, ◌⊎◌, option_map, All}
+use Rattle.std.proofs.Common.{◌≡◌, ℕ, zero, suc, ◌+◌, ◌*◌, ◌%◌, Bool, false, eqb, List, [], ◌∷◌, length, get_or, map, Some, None, refl, sym, ap, subst, ◌∙◌, inl, inr, arith}
+use Rattle.std.specs.Prelude.{Option, option_map}
 use Rattle.std.specs.Option.{option_map_or}
 use Rattle.std.proofs.lemmas.Bool.{cases_Bool, eq-eqb, ne_eqb, eqb-true, false≢true}
 use Rattle.vx_base.specs.Page.{byte_of_words}
 use Rattle.vx_base.specs.declared.perm.PageEntry.{PageEntry}
 use Rattle.vx_cells.specs.Cells.{CellsState}
 use Rattle.vx_episode.specs.Show.{Registers, Shows, is_pending}
-use Rattle.vx_flat.specs.Memory.{byte_at, offset_of}
+use Rattle.vx_flat.specs.Memory.{byte_at}
 use Rattle.vx_flat.specs.State.{Flat}
 use Rattle.vx_image.specs.Images.{entry_of_page}
 use Rattle.vx_image.specs.Pages.{Memory, MappedPage, page_of, page_numbered}
@@ -15,7 +15,7 @@ use Rattle.vx_paged.specs.Framed.{entries_of, framed, in_turn, shown, shown_page
 use Rattle.vx_paged.specs.Placed.{AreAlone, IsPlacedAs, IsWhole, frame_of}
 use Rattle.vx_paged.specs.declared.placement.FramedPage.{FramedPage}
 use Rattle.vx_paged.proofs.Shown.{byte_there, numbered}
-use Rattle.vx_pending.specs.Alike.{AreAlike, HaveSamePages}
+use Rattle.vx_pending.specs.Alike.{AreAlike}
 use Rattle.vx_tables.specs.Residency.{Place, PlacedPage, Residency, pages_of, placed, at_boot}
 use Rattle.vx_tables.specs.Residency.Place.{Away, Present}
 use Rattle.vx_tables.specs.Tables.{AreHeld}

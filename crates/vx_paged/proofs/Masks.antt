@@ -1,6 +1,6 @@
 -- The bytes that a mask names.
-use Rattle.std.proofs.Common.{◌≡◌, ℕ, zero, suc, ◌+◌, ◌-◌, ◌*◌, ◌/◌, ◌%◌, ◌^◌, ◌<◌, ◌≤◌, Bool, true, false, ◌&&◌, eqb, refl, sym, ap, subst, ◌∙◌, inl, inr, IsTrue, arith}
-use Rattle.std.specs.Prelude.{◌||◌, not, nat_le, nat_lt, ◌==◌}
+use Rattle.std.proofs.Common.{◌≡◌, ℕ, zero, suc, ◌+◌, ◌-◌, ◌*◌, ◌%◌, ◌^◌, ◌<◌, Bool, true, false, ◌&&◌, eqb, refl, sym, ap, subst, ◌∙◌, inl, inr, IsTrue, arith}
+use Rattle.std.specs.Prelude.{◌||◌, not, nat_le, nat_lt}
 use Rattle.std.proofs.lemmas.Bool.{cases_Bool, eqb-true, eq-eqb, false≢true}
 use Rattle.vx_base.specs.Numbers.{field, truth}
 use Rattle.vx_scalar.specs.Operands.{is_access_width}

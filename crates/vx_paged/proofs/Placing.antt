@@ -1,6 +1,5 @@
 -- Pages that are written into their frames, and what they show then.
-use Rattle.std.proofs.Common.{◌≡◌, ℕ, zero, suc, ◌+◌, ◌-◌, ◌*◌, ◌/◌, ◌%◌, ◌^◌, ◌<◌, ◌≤◌, Bool, true, false, ltb, inl, inr, List, [], ◌∷◌, ◌++◌, length, get_or, set, take, drop, map, refl, sym, ap, subst, ◌∙◌, length-drop, arith}
-use Rattle.std.specs.Prelude.{All}
+use Rattle.std.proofs.Common.{◌≡◌, ℕ, zero, suc, ◌+◌, ◌*◌, ◌/◌, ◌%◌, ◌^◌, ◌<◌, ◌≤◌, ltb, inl, inr, List, [], ◌∷◌, length, get_or, take, drop, map, refl, sym, ap, subst, ◌∙◌, length-drop, arith}
 use Rattle.std.proofs.lemmas.Bool.{cases_Bool, ltb-true, ltb-false}
 use Rattle.std.proofs.lemmas.List.{drop-drop, length-take-le}
 use Rattle.vx_base.specs.Numbers.{field}
@@ -12,13 +11,13 @@ use Rattle.vx_image.specs.Images.{entry_of_page}
 use Rattle.vx_image.specs.Kept.{pages_by, pages_of}
 use Rattle.vx_image.specs.Pages.{Memory, MappedPage}
 use Rattle.vx_paged.specs.Booting.{framed_at, page_at, page_writes, word_in}
-use Rattle.vx_paged.specs.Framed.{IsPlacement, IsWithin, bytes_from, entries_of, shown, shown_page}
+use Rattle.vx_paged.specs.Framed.{IsPlacement, IsWithin, bytes_from, entries_of, shown}
 use Rattle.vx_paged.specs.Left.{is_framed, blanked}
 use Rattle.vx_paged.specs.Placed.{IsWhole}
 use Rattle.vx_paged.specs.declared.placement.FramedPage.{FramedPage}
 use Rattle.vx_paged.proofs.Left.{blanked-set, is_framed-at}
 use Rattle.vx_paged.proofs.Shown.{shown_by}
-use Rattle.vx_paged.proofs.Written.{with_accesses-behind, one-word, no-word, length-words, words-inside, words-outside, after_words, word_byte, word_small}
+use Rattle.vx_paged.proofs.Written.{with_accesses-behind, one-word, no-word, length-words, words-inside, words-outside, word_byte, word_small}
 use Rattle.vx_tables.specs.Building.{kernel_writes}
 
 -- ---- an image's pages as they are kept

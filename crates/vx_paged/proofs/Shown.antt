@@ -1,6 +1,6 @@
 -- What pages in frames hold, and what a byte that is put changes.
-use Rattle.std.proofs.Common.{◌≡◌, ℕ, zero, suc, ◌+◌, ◌-◌, ◌*◌, ◌/◌, ◌%◌, ◌^◌, ◌<◌, ◌≤◌, Bool, true, false, ◌&&◌, eqb, ltb, cond, List, [], ◌∷◌, length, get_or, set, map, Some, None, refl, sym, ap, subst, ◌∙◌, inl, inr, add-zero, arith}
-use Rattle.std.specs.Prelude.{◌≢◌, ◌⊎◌, Option, option_map, All, AllPairs, if◌then◌else◌}
+use Rattle.std.proofs.Common.{◌≡◌, ℕ, zero, suc, ◌+◌, ◌*◌, ◌/◌, ◌%◌, ◌^◌, ◌<◌, ◌≤◌, false, ◌&&◌, eqb, ltb, cond, List, [], ◌∷◌, length, get_or, set, map, Some, None, refl, sym, ap, ◌∙◌, inl, inr, add-zero, arith}
+use Rattle.std.specs.Prelude.{◌⊎◌, Option, option_map}
 use Rattle.std.specs.Option.{option_map_or}
 use Rattle.std.proofs.Math.Bool.{and-false}
 use Rattle.std.proofs.Math.Nat.{mod-eq_of_lt}

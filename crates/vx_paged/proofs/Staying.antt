@@ -1,13 +1,12 @@
 -- Words outside of the pages' frames stay, and so do the tables.
-use Rattle.std.proofs.Common.{◌≡◌, ℕ, zero, suc, ◌+◌, ◌*◌, ◌/◌, ◌<◌, ◌≤◌, Bool, true, false, eqb, List, length, get_or, Some, refl, sym, ap, subst, ◌∙◌, inl, inr, zero-add, arith}
-use Rattle.std.specs.Prelude.{◌⊎◌, All}
+use Rattle.std.proofs.Common.{◌≡◌, ℕ, ◌+◌, ◌/◌, ◌<◌, ◌≤◌, false, eqb, List, length, get_or, refl, sym, ap, subst, ◌∙◌, inl, inr, zero-add, arith}
 use Rattle.std.proofs.lemmas.Bool.{ne_eqb}
 use Rattle.std.proofs.lemmas.List.Folds.{list_any_none}
 use Rattle.vx_cells.specs.Cells.{CellsState, IsMemory}
 use Rattle.vx_hart.specs.Rest.{Rest}
 use Rattle.vx_tables.specs.Residency.{Residency, pages_of, AreBelow}
 use Rattle.vx_tables.specs.Tables.{AreHeld, table_count}
-use Rattle.vx_paged.specs.Framed.{IsPlacement, framed}
+use Rattle.vx_paged.specs.Framed.{IsPlacement}
 use Rattle.vx_paged.specs.Left.{is_framed, rest_of, blanked}
 use Rattle.vx_paged.specs.Placed.{AreAlone, IsPlacedAs}
 use Rattle.vx_paged.specs.declared.placement.FramedPage.{FramedPage}

@@ -1,11 +1,7 @@
 -- Bytes of a word, and the numbers that they are.
-use Rattle.std.proofs.Common.{◌≡◌, ℕ, zero, suc, ◌+◌, ◌-◌, ◌*◌, ◌/◌, ◌%◌, ◌^◌, ◌<◌, ◌≤◌, Bool, true, false, ◌&&◌, eqb, leb, ltb, cond, List, [], ◌∷◌, length, get_or, set, take, drop, refl, sym, ap, ◌∙◌, inl, inr, pow-add, add-zero, IsTrue, arith}
-use Rattle.std.specs.Prelude.{if◌then◌else◌}
-use Rattle.std.proofs.lemmas.Bool.{cases_Bool, ltb-true, ltb-false}
-use Rattle.std.proofs.lemmas.List.{get_or-set_same, get_or-set_other}
-use Rattle.std.proofs.lemmas.Nat.{shr-shr, shl-shr, mod-pow-add, field_of}
-use Rattle.vx_base.specs.Numbers.{field, little_endian, from_little_endian, truth}
-use Rattle.vx_base.specs.Page.{byte_of_words}
+use Rattle.std.proofs.Common.{◌≡◌, ℕ, zero, suc, ◌+◌, ◌*◌, ◌/◌, ◌%◌, ◌^◌, ◌<◌, ◌≤◌, List, [], ◌∷◌, length, get_or, take, drop, refl, sym, ap, ◌∙◌, add-zero, arith}
+use Rattle.std.proofs.lemmas.Nat.{shr-shr, shl-shr, mod-pow-add}
+use Rattle.vx_base.specs.Numbers.{field, little_endian, from_little_endian}
 use Rattle.vx_flat.specs.Memory.{byte_at, bytes_at, next_address}
 use Rattle.vx_image.specs.Pages.{Memory}
 use Rattle.vx_paged.proofs.Shown.{next_is}

@@ -2,17 +2,16 @@
 -- and the page tables before it leave. This project's own.
 use Rattle.std.specs.Prelude.{◌≡◌, ℕ, zero, suc, ◌+◌, ◌*◌, List, [], ◌∷◌, ◌++◌, map, length, Some, slice_index, slice_index_or}
 use Rattle.vx_base.specs.Numbers.{from_little_endian}
-use Rattle.vx_base.specs.declared.perm.PageEntry.{PageEntry}
 use Rattle.vx_cells.specs.Cells.{CellsState, Makes}
 use Rattle.vx_cells.specs.declared.access.Access.{Access}
-use Rattle.vx_episode.specs.Show.{Registers, Shows}
+use Rattle.vx_episode.specs.Show.{Shows}
 use Rattle.vx_flat.specs.State.{Flat}
 use Rattle.vx_image.specs.Images.{entry_of_page}
 use Rattle.vx_image.specs.Pages.{Memory, MappedPage}
 use Rattle.vx_image.specs.Tables.{table_frames}
 use Rattle.vx_tables.specs.Building.{kernel_writes, table_writes}
 use Rattle.vx_tables.specs.Residency.{Residency, at_boot}
-use Rattle.vx_tables.specs.Tables.{AreHeld, table_count}
+use Rattle.vx_tables.specs.Tables.{AreHeld}
 use Rattle.vx_paged.specs.Framed.{IsPlacement, in_turn, shown}
 use Rattle.vx_paged.specs.Left.{Fits}
 use Rattle.vx_paged.specs.Placed.{AreAlone, IsPlacedAs}

@@ -1,5 +1,5 @@
 -- The pages of a process in frames of physical memory, and the memory that they show. This project's own.
-use Rattle.std.specs.Prelude.{◌≡◌, ◌≢◌, ℕ, zero, suc, ◌+◌, ◌*◌, ◌<◌, ◌==◌, List, [], ◌∷◌, map, All, AllPairs, Option, Some, None, if◌then◌else◌}
+use Rattle.std.specs.Prelude.{◌≢◌, ℕ, zero, suc, ◌+◌, ◌*◌, ◌<◌, ◌==◌, List, [], ◌∷◌, map, All, AllPairs, Option, Some, None, if◌then◌else◌}
 use Rattle.vx_base.specs.Page.{byte_of_words}
 use Rattle.vx_base.specs.Pages.{IsPageList}
 use Rattle.vx_base.specs.declared.perm.PageEntry.{PageEntry}

@@ -1,8 +1,6 @@
 -- The tables are built, the pages placed behind them, and what they show is the image.
-use Rattle.std.proofs.Common.{◌≡◌, ℕ, ◌+◌, ◌≤◌, List, length, map, sym, ap, subst, ◌∙◌, arith}
-use Rattle.vx_image.specs.Images.{entry_of_page}
+use Rattle.std.proofs.Common.{ℕ, ◌+◌, sym, ap, subst, ◌∙◌, arith}
 use Rattle.vx_paged.specs.Framed.{IsWithin, entries_of}
-use Rattle.vx_paged.specs.declared.placement.FramedPage.{FramedPage}
 use Rattle.vx_paged.proofs.Booted.{boots, count_of_tables, length_of_pages}
 use Rattle.vx_paged.proofs.InTurn.{entries-in_turn, IsWithin-in_turn}
 use Rattle.vx_paged.proofs.boot.boot_pages.Goals as goal

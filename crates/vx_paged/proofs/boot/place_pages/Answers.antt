@@ -1,7 +1,6 @@
 -- One page more, and all of them.
-use Rattle.std.proofs.Common.{◌≡◌, ℕ, ◌+◌, ◌-◌, ◌*◌, ◌<◌, ◌≤◌, List, length, get_or, take, drop, refl, sym, ap, subst, ◌∙◌, arith}
+use Rattle.std.proofs.Common.{◌≡◌, ℕ, ◌+◌, ◌-◌, ◌*◌, ◌<◌, List, length, get_or, take, drop, refl, ap, subst, ◌∙◌, arith}
 use Rattle.vx_cells.specs.Cells.{with_accesses}
-use Rattle.vx_hart.specs.Rest.{Rest}
 use Rattle.vx_paged.specs.Booting.{framed_at, page_at, page_writes}
 use Rattle.vx_paged.specs.Framed.{shown}
 use Rattle.vx_paged.specs.Left.{blanked}

@@ -1,9 +1,8 @@
 -- The bytes that are read are eight.
-use Rattle.std.proofs.Common.{◌≡◌, ℕ, ◌+◌, ◌-◌, ◌*◌, ◌≤◌, List, [], ◌∷◌, length, get_or, take, drop, refl, sym, ap, add_assoc, ◌∙◌, length-drop, arith}
-use Rattle.std.proofs.lemmas.List.{length-take-le, drop_more}
+use Rattle.std.proofs.Common.{◌≡◌, ℕ, ◌+◌, ◌-◌, ◌*◌, ◌≤◌, List, [], ◌∷◌, length, get_or, take, drop, sym, ap, add_assoc, ◌∙◌, arith}
+use Rattle.std.proofs.lemmas.List.{drop_more}
 use Rattle.std.specs.Int.{from_le_bytes, w64}
 use Rattle.vx_base.specs.Numbers.{from_little_endian}
-use Rattle.vx_paged.specs.Booting.{word_in}
 use Rattle.vx_paged.proofs.boot.word_at.Goals as goal
 
 take_eight : (bytes : List ℕ) (i : ℕ) → i + 8 ≤ length bytes → take 8 (drop i bytes) ≡ get_or bytes (i + 0) 0 ∷ get_or bytes (i + 1) 0 ∷ get_or bytes (i + 2) 0 ∷ get_or bytes (i + 3) 0 ∷ get_or bytes (i + 4) 0 ∷ get_or bytes (i + 5) 0 ∷ get_or bytes (i + 6) 0 ∷ get_or bytes (i + 7) 0 ∷ []

@@ -1,5 +1,5 @@
 -- One word more.
-use Rattle.std.proofs.Common.{ℕ, ◌+◌, ◌*◌, refl, ap, ◌∙◌, arith}
+use Rattle.std.proofs.Common.{◌*◌, refl, ◌∙◌, arith}
 use Rattle.vx_paged.specs.Booting.{word_in}
 use Rattle.vx_paged.proofs.Turns.{no-words, one-more}
 use Rattle.vx_paged.proofs.boot.write_page.Goals as goal

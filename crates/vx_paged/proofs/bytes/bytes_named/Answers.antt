@@ -1,5 +1,4 @@
 -- The mask is as many ones, moved up.
-use Rattle.std.proofs.Common.{◌≡◌, ℕ, sym, ap, ◌∙◌}
 use Rattle.vx_paged.proofs.Masks.{mask_names}
 use Rattle.vx_paged.proofs.bytes.bytes_named.Goals as goal
 

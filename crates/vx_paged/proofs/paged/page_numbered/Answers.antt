@@ -1,5 +1,5 @@
 -- The search by number finds the page, or none has it.
-use Rattle.std.proofs.Common.{rules, ◌≡◌, sym, ap, ◌∙◌}
+use Rattle.std.proofs.Common.{rules, sym, ap, ◌∙◌}
 use Rattle.std.proofs.lemmas.List.Sorted.{answers_always}
 use Rattle.vx_paged.specs.declared.placement.FramedPage.{FramedPage}
 use Rattle.vx_paged.proofs.Found.{searched, answer_at}

@@ -1,5 +1,5 @@
 -- The number that is read is that of the bytes at the address.
-use Rattle.std.proofs.Common.{◌≡◌, ℕ, ◌*◌, ◌%◌, List, refl, sym, ap, subst, ◌∙◌}
+use Rattle.std.proofs.Common.{ℕ, ◌*◌, ◌%◌, List, sym, ap, subst, ◌∙◌}
 use Rattle.vx_base.specs.Numbers.{field}
 use Rattle.vx_base.specs.declared.machine.Want.TheVariants.{Load}
 use Rattle.vx_paged.specs.Granted.{IsGrantedIn}

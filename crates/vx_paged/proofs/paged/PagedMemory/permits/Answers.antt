@@ -1,5 +1,5 @@
 -- An access is let through where its page's frame is found.
-use Rattle.std.proofs.Common.{◌≡◌, List, ap, ◌∙◌}
+use Rattle.std.proofs.Common.{List, ap, ◌∙◌}
 use Rattle.vx_image.specs.Pages.{permits}
 use Rattle.vx_paged.specs.Framed.{shown}
 use Rattle.vx_paged.specs.declared.placement.FramedPage.{FramedPage}

@@ -2,7 +2,6 @@
 use Rattle.std.proofs.Common.{◌≡◌, ℕ, ◌+◌, ◌*◌, ◌/◌, ◌%◌, ◌<◌, List, length, get_or, set, sym, ap, subst, ◌∙◌, arith}
 use Rattle.vx_base.specs.declared.machine.Want.TheVariants.{Store}
 use Rattle.vx_cells.specs.Merging.{merged}
-use Rattle.vx_image.specs.Pages.{permits}
 use Rattle.vx_paged.specs.Framed.{IsPlacement, shown}
 use Rattle.vx_paged.specs.Granted.{IsGrantedIn}
 use Rattle.vx_paged.specs.Left.{blanked}

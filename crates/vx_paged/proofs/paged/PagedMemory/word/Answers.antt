@@ -1,5 +1,5 @@
 -- The word that is read is that of the four bytes at the address.
-use Rattle.std.proofs.Common.{◌≡◌, ℕ, ◌*◌, ◌%◌, List, refl, sym, ap, subst, ◌∙◌}
+use Rattle.std.proofs.Common.{ℕ, ◌*◌, ◌%◌, List, refl, sym, ap, subst, ◌∙◌}
 use Rattle.vx_base.specs.Numbers.{field}
 use Rattle.vx_base.specs.declared.machine.Want.TheVariants.{Fetch}
 use Rattle.vx_paged.specs.Granted.{IsGrantedIn}
