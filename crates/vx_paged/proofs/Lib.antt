@@ -1,0 +1,15 @@
+pub mod Accesses
+pub mod Booted
+pub mod Found
+pub mod InTurn
+pub mod Joined
+pub mod Left
+pub mod Masks
+pub mod Placing
+pub mod Ranges
+pub mod Shown
+pub mod Staying
+pub mod Stored
+pub mod Turns
+pub mod Words
+pub mod Written
