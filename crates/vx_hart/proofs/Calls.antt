@@ -1,5 +1,5 @@
 -- What a step does, by what stands at the pc.
-use Rattle.std.proofs.Common.{◌≡◌, ℕ, Bool, Option, None, Some, true, false, ◌&&◌, if◌then◌else◌, refl, sym, ap, ◌∙◌}
+use Rattle.std.proofs.Common.{◌≡◌, ℕ, Bool, Option, Some, true, false, ◌&&◌, if◌then◌else◌, refl, sym, ap, ◌∙◌}
 use Rattle.vx_decode.specs.declared.instr.Instr.{Instr}
 use Rattle.vx_rows.specs.Table.{class_of}
 use Rattle.vx_rows.specs.declared.row.Class.{Class}
@@ -9,7 +9,6 @@ use Rattle.vx_decode.specs.Decoded.{decoded}
 use Rattle.vx_image.specs.Pages.{permits}
 use Rattle.vx_flat.specs.Outcome.{faulted}
 use Rattle.vx_flat.specs.Step.{upcoming, meaning, is_executed, is_legal, is_legal_as, performed, word_at_pc}
-use Rattle.vx_flat.specs.declared.upcoming.Upcoming.{Upcoming}
 use Rattle.vx_flat.specs.declared.upcoming.Upcoming.TheVariants.{Denied, Illegal, Instruction}
 use Rattle.vx_hart.specs.Outcomes.{outcome_as, outcome_next}
 

@@ -12,7 +12,7 @@ use Rattle.vx_image.specs.Pages.{Memory}
 use Rattle.vx_flat.specs.Prefix.{prefix_at, prefix_of, transfer_next}
 use Rattle.vx_flat.specs.Step.{upcoming}
 use Rattle.vx_flat.specs.State.{Flat, at_element, register}
-use Rattle.vx_flat.specs.Transfers.{Direction, Failure, Transfer, accesses_done, first_failure, is_fault_only_first, transfer, transferred, transferred_by, below_done}
+use Rattle.vx_flat.specs.Transfers.{Direction, Transfer, accesses_done, first_failure, is_fault_only_first, transfer, transferred, transferred_by, below_done}
 use Rattle.vx_flat.specs.Transfers.Direction.{Loading, Storing}
 use Rattle.vx_flat.specs.Vectors.{setting_at}
 use Rattle.vx_rows.specs.Table.{class_of}

@@ -1,7 +1,6 @@
 -- The elements below the stop are loaded.
-use Rattle.std.proofs.Common.{◌≡◌, ◌∙◌, sym, ap}
+use Rattle.std.proofs.Common.{◌∙◌, sym, ap}
 use Rattle.vx_vstate.specs.Registers.{words_of_all}
-use Rattle.vx_vstate.specs.State.{SettingView}
 use Rattle.vx_hart.specs.Outcomes.{flat_of}
 use Rattle.vx_hart.proofs.Ended.{loaded-moved, sound-with, vlen-here}
 use Rattle.vx_hart.proofs.movements.load_by.Goals as goal

@@ -1,5 +1,5 @@
 -- The end of what was gone through is that of the instruction.
-use Rattle.std.proofs.Common.{◌≡◌, ◌≤◌, ◌∙◌, ℕ, false, true, Option, Some, IfSome, [], ap, sym, subst, arith}
+use Rattle.std.proofs.Common.{◌≡◌, ◌≤◌, ◌∙◌, false, true, Some, IfSome, [], ap, sym, subst, arith}
 use Rattle.vx_flat.specs.State.{Flat}
 use Rattle.vx_flat.specs.Transfers.{Transfer, is_fault_only_first}
 use Rattle.vx_rows.specs.declared.row.Addressing.{Addressing}

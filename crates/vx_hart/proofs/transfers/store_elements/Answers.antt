@@ -1,9 +1,9 @@
 -- One element more, the end, and an element of which an access fails.
-use Rattle.std.proofs.Common.{◌≡◌, ℕ, ◌<◌, ◌≤◌, min, refl, sym, ap, ◌∙◌, subst, arith}
+use Rattle.std.proofs.Common.{◌≡◌, ℕ, ◌<◌, min, refl, sym, ap, ◌∙◌, subst, arith}
 use Rattle.vx_flat.specs.Transfers.{first_failure}
 use Rattle.vx_flat.specs.Transfers.Direction.{Storing}
 use Rattle.vx_vaddr.specs.Views.{movement_with}
-use Rattle.vx_vector.specs.Accesses.{Movement, accesses_between, accesses_of_element, movement_count}
+use Rattle.vx_vector.specs.Accesses.{Movement, accesses_between, accesses_of_element}
 use Rattle.vx_vector.specs.Movements.{IsPlacedAccess}
 use Rattle.vx_vstate.specs.State.{SettingView}
 use Rattle.vx_hart.specs.Transfers.{after_stores}

@@ -1,5 +1,5 @@
 -- What stands at the pc is done.
-use Rattle.std.proofs.Common.{◌≡◌, ◌∙◌, ℕ, Some, sym, ap}
+use Rattle.std.proofs.Common.{◌∙◌, Some, sym, ap}
 use Rattle.vx_flat.specs.Outcome.{faulted}
 use Rattle.vx_flat.specs.State.{Flat}
 use Rattle.vx_hart.specs.Outcomes.{flat_of, outcome_next}

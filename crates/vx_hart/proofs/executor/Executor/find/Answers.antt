@@ -1,7 +1,6 @@
 -- What stands at the pc, and its instruction.
-use Rattle.std.proofs.Common.{◌≡◌, ◌∙◌, Bool, Some, None, ap, sym}
+use Rattle.std.proofs.Common.{Some, None, sym}
 use Rattle.vx_hart.proofs.executor.Executor.find.Goals as goal
-use Rattle.vx_flat.specs.Step.{meaning}
 use Rattle.vx_hart.specs.Outcomes.{flat_of}
 use Rattle.vx_hart.proofs.Calls.{upcoming-denied, upcoming-word}
 
