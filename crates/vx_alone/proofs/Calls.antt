@@ -1,5 +1,5 @@
 -- What a process's step is, by what became of its instruction; what asks for a service is an ecall.
-use Rattle.std.proofs.Common.{◌≡◌, Bool, Option, None, Some, IfSome, true, false, if◌then◌else◌, refl, sym, ap, ◌∙◌, subst}
+use Rattle.std.proofs.Common.{◌≡◌, Bool, Option, None, Some, IfSome, true, false, if◌then◌else◌, refl, sym, ap, ◌∙◌}
 use Rattle.std.specs.Prelude.{ℤ}
 use Rattle.std.proofs.lemmas.Bool.{false≢true}
 use Rattle.std.proofs.lemmas.Option.{none-some}

@@ -1,5 +1,5 @@
 -- What became of the instruction is taken into the process.
-use Rattle.std.proofs.Common.{◌≡◌, ◌∙◌, ap}
+use Rattle.std.proofs.Common.{◌∙◌, ap}
 use Rattle.vx_flat.specs.Process.{Process}
 use Rattle.vx_flat.specs.State.{Flat}
 use Rattle.vx_flat.specs.Step.{upcoming}

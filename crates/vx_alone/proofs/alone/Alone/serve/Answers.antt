@@ -1,5 +1,5 @@
 -- What became of the service is taken into the process.
-use Rattle.std.proofs.Common.{◌≡◌, ◌∙◌, Bool}
+use Rattle.std.proofs.Common.{◌∙◌, Bool}
 use Rattle.vx_flat.specs.Process.{Process}
 use Rattle.vx_flat.specs.State.{Flat}
 use Rattle.vx_hart.specs.Outcomes.{flat_of}
