@@ -1,73 +1,88 @@
--- What a step does, by what stands at the pc; what asks for a service is an ecall.
-use Rattle.std.proofs.Common.{◌≡◌, ℕ, Bool, Option, None, Some, true, false, ◌&&◌, if◌then◌else◌, refl, sym, ap, ◌∙◌}
+-- What a process's step is, by what became of its instruction; what asks for a service is an ecall.
+use Rattle.std.proofs.Common.{◌≡◌, Bool, Option, None, Some, IfSome, true, false, if◌then◌else◌, refl, sym, ap, ◌∙◌}
+use Rattle.std.specs.Prelude.{ℤ}
 use Rattle.std.proofs.lemmas.Bool.{false≢true}
+use Rattle.std.proofs.lemmas.Option.{none-some}
 use Rattle.vx_decode.specs.declared.instr.Instr.{Instr}
 use Rattle.vx_rows.specs.Table.{class_of}
 use Rattle.vx_rows.specs.declared.row.Class.{Class}
 use Rattle.vx_rows.specs.declared.row.Class.TheVariants as class
+use Rattle.vx_flat.specs.Outcome.{Outcome}
 use Rattle.vx_flat.specs.Process.{Process, after, stepped}
 use Rattle.vx_flat.specs.State.{Flat}
-use Rattle.vx_base.specs.declared.machine.Want.TheVariants.{Fetch}
-use Rattle.vx_decode.specs.Decoded.{decoded}
-use Rattle.vx_image.specs.Pages.{permits}
-use Rattle.vx_flat.specs.Outcome.{faulted}
-use Rattle.vx_flat.specs.Step.{upcoming, meaning, is_executed, is_legal, is_legal_as, performed, performed_as, ecall, step, word_at_pc}
+use Rattle.vx_flat.specs.Step.{upcoming, performed, performed_as, ecall, step}
 use Rattle.vx_flat.specs.declared.end.End.{End}
 use Rattle.vx_flat.specs.declared.upcoming.Upcoming.{Upcoming}
 use Rattle.vx_flat.specs.declared.upcoming.Upcoming.TheVariants.{Denied, Illegal, Instruction}
-use Rattle.vx_alone.specs.Asking.{is_service, is_service_class}
+use Rattle.vx_hart.specs.Asking.{asks, class_next, is_service, is_service_class}
+use Rattle.vx_hart.specs.Outcomes.{outcome_next, outcome_of}
+use Rattle.vx_hart.specs.Writing.{served}
+use Rattle.vx_hart.specs.declared.progress.Progress.{Progress}
+use Rattle.vx_hart.specs.declared.progress.Progress.TheVariants.{Completed, Asks, Faulted}
+use Rattle.vx_alone.specs.Settled.{settled, settled_service}
 
 class-ecall : (c : Class) (s : Flat) (i : Instr) → is_service_class c ≡ true → performed_as c s i ≡ ecall s
-class-ecall class.Ecall s i asks = refl
-class-ecall c s i asks = absurd (false≢true asks)
+class-ecall class.Ecall s i asking = refl
+class-ecall c s i asking = absurd (false≢true asking)
 
 upcoming-ecall : (s : Flat) (u : Upcoming) → is_service u ≡ true → performed s u ≡ ecall s
 unfolding performed
-upcoming-ecall s Denied asks = absurd (false≢true asks)
-upcoming-ecall s (Illegal word) asks = absurd (false≢true asks)
-upcoming-ecall s (Instruction i) asks = class-ecall (class_of i.op) s i asks
+upcoming-ecall s Denied asking = absurd (false≢true asking)
+upcoming-ecall s (Illegal word) asking = absurd (false≢true asking)
+upcoming-ecall s (Instruction i) asking = class-ecall (class_of i.op) s i asking
 
 stepped-is : (p : Process) → p.over ≡ None → stepped p ≡ after p (step p.state)
 stepped-is p e = ap (λ (o : Option End). elim o [ None ↦ after p (step p.state) | Some end ↦ p ]) e
 
--- the step of a process that asks for a service
-pub ecall-stepped : (p : Process) → p.over ≡ None → is_service (upcoming p.state) ≡ true → after p (ecall p.state) ≡ stepped p
-ecall-stepped p running asks = sym (stepped-is p running ∙ ap (after p) (upcoming-ecall p.state (upcoming p.state) asks))
+-- ---- an instruction
 
--- what stands at the pc where it can't be fetched, and where it is this word
-pub upcoming-denied : (s : Flat) → permits s.memory s.pc Fetch ≡ false → upcoming s ≡ Denied
-unfolding upcoming
-upcoming-denied s e = rw e refl
+-- what was done, or nothing
+abbrev after_some : Process → Option Outcome → Process
+after_some p None = p
+after_some p (Some o) = after p o
 
-pub upcoming-word : (s : Flat) (word : ℕ) (o : Option Instr) → permits s.memory s.pc Fetch ≡ true → word ≡ word_at_pc s → o ≡ decoded word → upcoming s ≡ meaning s word o
-unfolding upcoming
-upcoming-word s word o e at is = rw (e, is, at) refl
+settles : (progress : Progress) (p : Process) (s : Flat) (o : Outcome) → outcome_of progress s ≡ Some o → settled progress (record p { state = s }) ≡ after_some p (outcome_of progress s)
+settles Completed p s o e = refl
+settles Asks p s o e = absurd (none-some o e)
+settles (Faulted fault) p s o e = refl
 
--- a step that does this
-pub performed-stepped : (p : Process) (u : Upcoming) → p.over ≡ None → upcoming p.state ≡ u → after p (performed p.state u) ≡ stepped p
-performed-stepped p u running e = sym (stepped-is p running ∙ ap (λ (v : Upcoming). after p (performed p.state v)) e)
+settled-asks : (progress : Progress) (p : Process) (s : Flat) → outcome_of progress s ≡ None → s ≡ p.state → settled progress (record p { state = s }) ≡ p
+settled-asks Completed p s e same = absurd (none-some _ (sym e))
+settled-asks Asks p s e same = ap (λ (t : Flat). record p { state = t }) same
+settled-asks (Faulted fault) p s e same = absurd (none-some _ (sym e))
 
--- an instruction that is legal, and one that isn't
-meaning-as : (b : Bool) (s : Flat) (word : ℕ) (i : Instr) → is_legal s i ≡ b → meaning s word (Some i) ≡ (if b then Instruction i else Illegal word)
-meaning-as b s word i e = ap (λ (a : Bool). if a then Instruction i else Illegal word) e
+next-by : (b : Bool) (s : Flat) (u : Upcoming) → is_service u ≡ b → outcome_next s u ≡ (if b then None else Some (performed s u))
+next-by b s u e = ap (λ (a : Bool). if a then None else Some (performed s u)) e
 
-is_legal-by : (s : Flat) (i : Instr) (c : Class) → c ≡ class_of i.op → (is_executed s.vectors_enabled c && is_legal_as c s i) ≡ is_legal s i
-is_legal-by s i c is = ap (λ (k : Class). is_executed s.vectors_enabled k && is_legal_as k s i) is
+service-by : (s : Flat) (c : Option Class) (b : Bool) → c ≡ class_next (upcoming s) → asks c ≡ b → is_service (upcoming s) ≡ b
+service-by s c b is e = ap asks (sym is) ∙ e
 
-pub meaning-legal : (s : Flat) (word : ℕ) (i : Instr) (c : Class) → c ≡ class_of i.op → (is_executed s.vectors_enabled c && is_legal_as c s i) ≡ true → meaning s word (Some i) ≡ Instruction i
-meaning-legal s word i c is e = meaning-as true s word i (sym (is_legal-by s i c is) ∙ e)
+pub advanced : (p q : Process) (progress : Progress) (c : Option Class) (s : Flat) → q ≡ p → p.over ≡ None → c ≡ class_next (upcoming q.state) → outcome_of progress s ≡ outcome_next q.state (upcoming q.state) → asks c ≡ false → settled progress (record q { state = s }) ≡ stepped p
+advanced p q progress c s same running is done goes =
+    let e : outcome_of progress s ≡ Some (performed q.state (upcoming q.state)) = done ∙ next-by false q.state (upcoming q.state) (service-by q.state c false is goes) in
+    settles progress q s (performed q.state (upcoming q.state)) e
+    ∙ ap (after_some q) e
+    ∙ ap (λ (r : Process). after r (step r.state)) same
+    ∙ sym (stepped-is p running)
 
-pub meaning-illegal : (s : Flat) (word : ℕ) (i : Instr) (c : Class) → c ≡ class_of i.op → (is_executed s.vectors_enabled c && is_legal_as c s i) ≡ false → meaning s word (Some i) ≡ Illegal word
-meaning-illegal s word i c is e = meaning-as false s word i (sym (is_legal-by s i c is) ∙ e)
+pub waited : (p q : Process) (progress : Progress) (c : Option Class) (s : Flat) → q ≡ p → c ≡ class_next (upcoming q.state) → outcome_of progress s ≡ outcome_next q.state (upcoming q.state) → s ≡ q.state → asks c ≡ true → settled progress (record q { state = s }) ≡ p
+waited p q progress c s same is done left waits =
+    settled-asks progress q s (done ∙ next-by true q.state (upcoming q.state) (service-by q.state c true is waits)) left ∙ same
 
-pub performed-denied : (s : Flat) → performed s Denied ≡ faulted s 12 s.pc
-unfolding performed
-performed-denied s = refl
+-- ---- a service
 
-pub performed-illegal : (s : Flat) (word : ℕ) → performed s (Illegal word) ≡ faulted s 2 word
-unfolding performed
-performed-illegal s word = refl
+pub at-once : (code : Option ℤ) (old new : Bool → Flat) (e : Bool) → IfSome code (λ (n : ℤ). (a : Bool) → new a ≡ old a) → IfSome code (λ (n : ℤ). new e ≡ old e)
+at-once None old new e h = tt
+at-once (Some n) old new e h = h e
 
-pub performed-instruction : (s : Flat) (i : Instr) (c : Class) → c ≡ class_of i.op → performed_as c s i ≡ performed s (Instruction i)
-unfolding performed
-performed-instruction s i c is = ap (λ (k : Class). performed_as k s i) is
+by_code : (code : Option ℤ) (q : Process) (s : Flat) → IfSome code (λ (n : ℤ). s ≡ q.state) → settled_service code (record q { state = s }) ≡ after q (served code s)
+by_code None q s left = refl
+by_code (Some n) q s left = ap (λ (t : Flat). settled_service (Some n) (record q { state = t })) left
+
+pub was_served : (p q : Process) (code : Option ℤ) (s : Flat) → q ≡ p → p.over ≡ None → is_service (upcoming p.state) ≡ true → IfSome code (λ (n : ℤ). s ≡ q.state) → served code s ≡ ecall q.state → settled_service code (record q { state = s }) ≡ stepped p
+was_served p q code s same running asking left done =
+    by_code code q s left
+    ∙ ap (after q) done
+    ∙ ap (λ (r : Process). after r (ecall r.state)) same
+    ∙ ap (after p) (sym (upcoming-ecall p.state (upcoming p.state) asking))
+    ∙ sym (stepped-is p running)

@@ -1,10 +1,4 @@
-pub mod Calculated
 pub mod Accesses
 pub mod Calls
 pub mod Numbers
 pub mod Pages
-pub mod Progress
-pub mod Performable
-pub mod Ended
-pub mod Moved
-pub mod Written

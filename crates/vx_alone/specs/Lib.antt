@@ -1,7 +1,4 @@
 pub mod Asking
 pub mod Granted
-pub mod Registers
-pub mod Operands
-pub mod Transfers
+pub mod Settled
 pub mod Turns
-pub mod Writing

@@ -84,7 +84,7 @@ impl Memory {
 
     /// The instruction word at an address that is a multiple of 4; `None` exactly where it can't be fetched.
     #[inline(always)]
-    pub fn word(&mut self, address: u64) -> Option<u32>
+    pub fn fetched(&mut self, address: u64) -> Option<u32>
         requires { address % 4 ≡ 0 }
         ensures memory { self.new ≡ self.old }
         ensures word { MatchOption result (permits self.old address want.Fetch ≡ false) (λ word.
@@ -97,7 +97,7 @@ impl Memory {
     /// The number that so many bytes from an address on are, least first; `None` exactly where they can't be read. The
     /// address is a multiple of their count.
     #[inline(always)]
-    pub fn load(&mut self, address: u64, width: u64) -> Option<u64>
+    pub fn number(&mut self, address: u64, width: u64) -> Option<u64>
         requires width { IsTrue (is_access_width width) }
         requires aligned { address % width ≡ 0 }
         ensures memory { self.new ≡ self.old }
@@ -110,7 +110,7 @@ impl Memory {
 
     /// Whether an access is let through at an address.
     #[inline(always)]
-    pub fn permits(&mut self, address: u64, want: Want) -> bool
+    pub fn lets_through(&mut self, address: u64, want: Want) -> bool
         ensures memory { self.new ≡ self.old }
         ensures permitted { result ≡ permits self.old address want }
     {
@@ -125,7 +125,7 @@ impl Memory {
     /// Stores the low bytes of a number from an address on, least first, where that is let through, and says whether it was.
     /// The address is a multiple of their count.
     #[inline(always)]
-    pub fn store(&mut self, address: u64, width: u64, value: u64) -> bool
+    pub fn put(&mut self, address: u64, width: u64, value: u64) -> bool
         requires width { IsTrue (is_access_width width) }
         requires aligned { address % width ≡ 0 }
         ensures stored { result ≡ permits self.old address want.Store }
@@ -139,7 +139,7 @@ impl Memory {
     }
 
     /// Whether each of so many bytes from an address on can be read, and none lies past the last address.
-    pub fn is_readable(&self, address: u64, count: u64) -> bool
+    pub fn has_readable(&self, address: u64, count: u64) -> bool
         ensures { result ≡ is_readable self.now address count }
     {
         (count == 0 || count - 1 <= u64::MAX - address)
@@ -147,7 +147,7 @@ impl Memory {
     }
 
     /// Appends so many bytes from an address on, all of which can be read.
-    pub fn append_to(&self, address: u64, count: u64, out: &mut Vec<u8>)
+    pub fn append_bytes(&self, address: u64, count: u64, out: &mut Vec<u8>)
         requires readable { is_readable self.now address count ≡ true }
         requires room { vec_len out.old + count ≤ vec_capacity out.old }
         ensures bytes { out.new.items ≡ out.old.items ++ bytes_at self.now address count }
@@ -333,10 +333,10 @@ mod tests {
     fn keeps_an_image_and_its_stack(rt: HostRuntime) -> Result<(), Fail> {
         let image = raw_image(rt.alloc(), &[0x13, 0x05, 0x10, 0x02, 0x73, 0, 0, 0])?;
         let mut memory = Memory::of(rt.alloc(), &image)?;
-        assert_eq!(rt; memory.word(0x10000), Some(0x0210_0513));
-        assert_eq!(rt; memory.word(0x10004), Some(0x73));
-        assert_eq!(rt; memory.word(0x10ffc), Some(0));
-        assert_eq!(rt; memory.word(0x11000), None);
+        assert_eq!(rt; memory.fetched(0x10000), Some(0x0210_0513));
+        assert_eq!(rt; memory.fetched(0x10004), Some(0x73));
+        assert_eq!(rt; memory.fetched(0x10ffc), Some(0));
+        assert_eq!(rt; memory.fetched(0x11000), None);
         for (address, want, granted) in [
             (0x10fff, Want::Fetch, true),
             (0x10000, Want::Store, false),
@@ -389,11 +389,11 @@ mod tests {
         address: u64,
         count: usize,
     ) -> Result<Option<Vec<u8>>, AllocError> {
-        if !memory.is_readable(address, count as u64) {
+        if !memory.has_readable(address, count as u64) {
             return Ok(None);
         }
         let mut out = Vec::with_capacity(alloc, count)?;
-        memory.append_to(address, count as u64, &mut out);
+        memory.append_bytes(address, count as u64, &mut out);
         Ok(Some(out))
     }
 
@@ -406,7 +406,7 @@ mod tests {
             (0x3f_ffff_1000, 9, true),
             (0x10000, 1, false),
         ] {
-            assert_eq!(rt; memory.store(address, 1, byte), stored, "{address:x}");
+            assert_eq!(rt; memory.put(address, 1, byte), stored, "{address:x}");
         }
         for (address, count, readable) in [
             (0x3f_ffff_0000, 0x10000, true),
@@ -418,7 +418,11 @@ mod tests {
             (u64::MAX, 2, false),
             (0x3f_ffff_0000, u64::MAX, false),
         ] {
-            assert_eq!(rt; memory.is_readable(address, count), readable, "{address:x}");
+            assert_eq!(rt;
+                memory.has_readable(address, count),
+                readable,
+                "{address:x}"
+            );
         }
         let across = read(&memory, rt.alloc(), 0x3f_ffff_0ffe, 4)?;
         assert_eq!(rt; across.ok_or("denied")?.as_slice(), [0, 7, 9, 0].as_slice());

@@ -1,1 +1,9 @@
+pub mod Asking
+pub mod Directions
+pub mod Found
+pub mod Operands
+pub mod Outcomes
+pub mod Registers
 pub mod Rest
+pub mod Transfers
+pub mod Writing

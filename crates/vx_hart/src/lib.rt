@@ -1,6 +1,31 @@
-//! What an instruction does to registers and to any memory.
+//! What an instruction does to the registers and to any memory.
+//!
+//! It stands on `vx_decode`, on the vector state of `vx_vstate`, on the effects of `vx_scalar`, on the vector arithmetic of
+//! `vx_exec`, on the accesses of vector memory of `vx_vaddr` and on the definitions of `vx_flat`, which it computes over any
+//! `Memory`. To the crates above it gives `Executor`: what stands at the pc, and what that does, as a whole or in its parts.
 #![tactic(auto)]
 
+mod arch;
+mod arithmetic;
+mod asking;
+mod controls;
+mod direction;
+mod executor;
+mod failures;
+mod kept;
 mod memory;
+mod movements;
+mod operands;
+mod progress;
+mod scalars;
+mod service;
+mod transfers;
+mod vectors;
 
+pub use arch::Arch;
+pub use asking::asks;
+pub use direction::Direction;
+pub use executor::Executor;
 pub use memory::Memory;
+pub use progress::{Advance, Found, Progress};
+pub use service::serve;

@@ -1,0 +1,15 @@
+-- The elements so far have been loaded.
+use Rattle.std.proofs.Common.{◌≡◌, ◌-◌}
+use Rattle.vx_vaddr.specs.Views.{movement_with}
+use Rattle.vx_hart.proofs.Elements.{IsLoaded}
+use Rattle.vx_hart.proofs.transfers.load_elements.Given as goal
+
+abbrev pub invariant-loop-i : goal.invariant-loop-i
+invariant-loop-i g l = record {
+  fits : g.M.Memory.fits l.memory l.physical;
+  rest : g.M.Memory.rest l.memory l.physical ≡ g.M.Memory.rest l.fn.memory l.fn.physical;
+  so : IsLoaded (movement_with l.pattern (g.S.WordFile.words l.file)) l.end (g.M.Memory.state l.fn.memory l.fn.physical) (g.M.Memory.state l.memory l.physical) l.fn.v l.v l.i;
+}
+
+abbrev pub decreases-loop-i : goal.decreases-loop-i
+decreases-loop-i g l = l.end - l.i

@@ -1,0 +1,351 @@
+ghost use Rattle.std.specs.Prelude.{◌≡◌, ◌⊎◌, ℕ, Bool, List, ◌<◌, ◌≤◌, ◌&&◌, not, is_some, slice_index, true, false, Some, None, IfOk, IfSome};
+ghost use Rattle.vx_decode.specs.Encoded.{IsValid};
+ghost use Rattle.vx_decode.specs.Legal.{is_illegal};
+ghost use Rattle.vx_flat.specs.Prefix.{prefix_at, transfer_next};
+ghost use Rattle.vx_flat.specs.Step.{calculate_by, is_executed, is_legal_as, meaning, upcoming};
+ghost use Rattle.vx_flat.specs.Transfers.{below_done, first_failure, transfer, transferred};
+ghost use Rattle.vx_flat.specs.Transfers.{Direction as FlatDirection};
+ghost use Rattle.vx_flat.specs.Vectors.{reading_at, setting_at};
+ghost use Rattle.vx_hart.specs.Asking.{asks, class_next, is_service, is_service_class};
+ghost use Rattle.vx_hart.specs.Directions.{direction_of};
+ghost use Rattle.vx_hart.specs.Found.{IsValidFound, next_of};
+ghost use Rattle.vx_hart.specs.Outcomes.{flat_of, outcome_as, outcome_next, outcome_of};
+ghost use Rattle.vx_hart.specs.Transfers.{Moves, transfer_with};
+ghost use Rattle.vx_image.specs.Pages.{Memory as FlatMemory};
+ghost use Rattle.vx_rows.specs.Table.{class_of};
+ghost use Rattle.vx_rows.specs.declared.row.Class.TheVariants as class;
+ghost use Rattle.vx_scalar.specs.Operands.{NamesRegisters};
+ghost use Rattle.vx_vaddr.specs.Views.{movement_with};
+ghost use Rattle.vx_vector.specs.Accesses.{accesses_between, movement_count};
+ghost use Rattle.vx_vstate.specs.State.{setting_of};
+ghost use Rattle.vx_vstate.specs.Views.{view_of};
+
+use crate::arch::Arch;
+use crate::arithmetic::{calculate, calculate_legal, calculation};
+use crate::controls::{configure, control};
+use crate::direction::Direction;
+use crate::kept::Kept;
+use crate::memory::Memory;
+use crate::movements::{load_vectors, movement, reach, store_vectors, transfer};
+use crate::progress::{Advance, Found, Progress};
+use crate::scalars::{affect, fault, load, store};
+use std::alloc::{AllocError, Global};
+use std::marker::Model;
+use vx_decode::{Instr, Known, KnownWords, decoded_is_valid};
+use vx_exec::Calculator;
+use vx_rows::{Addressing, Class, Eew, Family};
+use vx_vaddr::AccessPattern;
+use vx_vstate::Setting;
+
+/// Does instructions of one hart, on registers and a memory that are handed to each call. It takes all its memory when it is
+/// made.
+#[derive(Debug, Drop)]
+pub struct Executor {
+    /// The hart's vector instructions are enabled.
+    vectors_enabled: bool,
+    words: KnownWords,
+    /// Room for the words of a vector instruction.
+    calculator: Calculator,
+    /// The vector registers as they were at the start of the last vector load.
+    kept: Kept,
+}
+
+impl Model for Executor {
+    ghost use Rattle.std.specs.Prelude.{Bool};
+
+    ghost Value = { Bool };
+
+    ghost view = { λ e. e.vectors_enabled };
+}
+
+impl Executor {
+    /// The executor of a hart whose vector instructions are enabled or not. It takes all the memory that it ever needs.
+    pub fn new(alloc: Global, vectors_enabled: bool) -> Result<Executor, AllocError>
+        ensures { IfOk result (λ e. e ≡ vectors_enabled) }
+    {
+        Ok(Executor {
+            vectors_enabled,
+            words: KnownWords::new(alloc)?,
+            calculator: Calculator::new(alloc)?,
+            kept: Kept::new(alloc)?,
+        })
+    }
+
+    /// What stands at the pc. Whether it is legal isn't looked at.
+    #[inline(always)]
+    pub fn find<P, M: Memory<P>>(&mut self, arch: &Arch, memory: &mut M, physical: &mut P) -> Found
+        requires fits { M.fits memory.old physical.old }
+        ensures fits { M.fits memory.new physical.new }
+        ensures rest { M.rest memory.new physical.new ≡ M.rest memory.old physical.old }
+        ensures memory { M.state memory.new physical.new ≡ M.state memory.old physical.old }
+        ensures same { self.new ≡ self.old }
+        ensures valid { IsValidFound result }
+        ensures found { (output : List ℕ) → let s = flat_of self.old arch.now (M.state memory.old physical.old) output in upcoming s ≡ next_of s result }
+    {
+        decoded_is_valid();
+        let Some(word) = memory.word(physical, arch.pc) else {
+            return Found::Denied;
+        };
+        let Some(known) = self.words.lookup(word) else {
+            return Found::Unknown(word);
+        };
+        Found::Known(word, known)
+    }
+
+    /// Does what stands at the pc, unless it asks for a service.
+    pub fn advance<P, M: Memory<P>>(
+        &mut self,
+        arch: &mut Arch,
+        memory: &mut M,
+        physical: &mut P,
+    ) -> Advance
+        requires fits { M.fits memory.old physical.old }
+        ensures fits { M.fits memory.new physical.new }
+        ensures rest { M.rest memory.new physical.new ≡ M.rest memory.old physical.old }
+        ensures same { self.new ≡ self.old }
+        ensures class { (output : List ℕ) → result.class ≡ class_next (upcoming (flat_of self.old arch.old (M.state memory.old physical.old) output)) }
+        ensures waits { asks result.class ≡ true → (output : List ℕ) → flat_of self.new arch.new (M.state memory.new physical.new) output ≡ flat_of self.old arch.old (M.state memory.old physical.old) output }
+        ensures performed { (output : List ℕ) → let s = flat_of self.old arch.old (M.state memory.old physical.old) output in
+            outcome_of result.progress (flat_of self.new arch.new (M.state memory.new physical.new) output) ≡ outcome_next s (upcoming s) }
+    {
+        match self.find(arch, memory, physical) {
+            Found::Denied => Advance {
+                class: None,
+                progress: fault(arch, 12, arch.pc),
+            },
+            Found::Unknown(word) => Advance {
+                class: None,
+                progress: fault(arch, 2, u64::from(word)),
+            },
+            Found::Known(word, known) => self.advance_by(arch, memory, physical, word, known),
+        }
+    }
+
+    /// Does an instruction, whose word this is, unless it asks for a service. An illegal one faults and tells its word.
+    pub fn execute<P, M: Memory<P>>(
+        &mut self,
+        arch: &mut Arch,
+        memory: &mut M,
+        physical: &mut P,
+        word: u32,
+        known: Known,
+    ) -> Progress
+        requires valid { IsValid known.instr }
+        requires fits { M.fits memory.old physical.old }
+        ensures fits { M.fits memory.new physical.new }
+        ensures rest { M.rest memory.new physical.new ≡ M.rest memory.old physical.old }
+        ensures same { self.new ≡ self.old }
+        ensures waits { (output : List ℕ) → let s = flat_of self.old arch.old (M.state memory.old physical.old) output in
+            is_service (meaning s word (Some known.instr)) ≡ true → flat_of self.new arch.new (M.state memory.new physical.new) output ≡ s }
+        ensures performed { (output : List ℕ) → let s = flat_of self.old arch.old (M.state memory.old physical.old) output in
+            outcome_of result (flat_of self.new arch.new (M.state memory.new physical.new) output) ≡ outcome_next s (meaning s word (Some known.instr)) }
+    {
+        self.advance_by(arch, memory, physical, word, known)
+            .progress
+    }
+
+    /// The setting of vector arithmetic, where vectors are enabled and it is legal.
+    pub fn calculation(&self, arch: &Arch, i: &Instr) -> Option<Setting>
+        requires registers { NamesRegisters i.now }
+        ensures legal { (memory : FlatMemory) (output : List ℕ) → is_some result ≡ (self.now && not (is_illegal i.now (setting_at (flat_of self.now arch.now memory output) i.now))) }
+        ensures setting { IfSome result (λ at. view_of at ≡ setting_of arch.now.v (slice_index arch.now.regs.x i.now.rs1)) }
+        ensures accepted { IfSome result (λ at. is_illegal i.now (view_of at) ≡ false) }
+    {
+        calculation(self.vectors_enabled, arch, i)
+    }
+
+    /// Does vector arithmetic, which is legal with this setting.
+    pub fn calculate(
+        &mut self,
+        arch: &mut Arch,
+        i: &Instr,
+        family: Family,
+        at: &Setting,
+    ) -> Progress
+        requires valid { IsValid i.now }
+        requires registers { NamesRegisters i.now }
+        requires class { class_of i.now.op ≡ class.VectorArithmetic family }
+        requires setting { view_of at.now ≡ setting_of arch.old.v (slice_index arch.old.regs.x i.now.rs1) }
+        requires accepted { is_illegal i.now (view_of at.now) ≡ false }
+        ensures same { self.new ≡ self.old }
+        ensures performed { (enabled : Bool) (memory : FlatMemory) (output : List ℕ) → outcome_of result (flat_of enabled arch.new memory output) ≡ Some (calculate_by (reading_at (flat_of enabled arch.old memory output) i.now) (flat_of enabled arch.old memory output) i.now) }
+    {
+        calculate(&mut self.calculator, arch, i, family, at)
+    }
+
+    /// The accesses of a vector load or store and its setting, where vectors are enabled and it is legal.
+    pub fn movement(
+        &self,
+        arch: &Arch,
+        addressing: Addressing,
+        encoded: Eew,
+        i: &Instr,
+    ) -> Option<(AccessPattern, Setting)>
+        requires valid { IsValid i.now }
+        requires registers { NamesRegisters i.now }
+        requires row { (class_of i.now.op ≡ class.VectorLoad addressing encoded) ⊎ (class_of i.now.op ≡ class.VectorStore addressing encoded) }
+        ensures legal { (memory : FlatMemory) (output : List ℕ) → is_some result ≡ (self.now && not (is_illegal i.now (setting_at (flat_of self.now arch.now memory output) i.now))) }
+        ensures moves { IfSome result (λ r. Moves arch.now.v r.0 r.1) }
+        ensures addressing { IfSome result (λ r. (movement_with r.0 arch.now.v.words).addressing ≡ addressing) }
+        ensures same { IfSome result (λ r. (direction : FlatDirection) (memory : FlatMemory) (output : List ℕ) → transfer_with direction r.0 arch.now.v ≡ transfer direction addressing encoded (flat_of self.now arch.now memory output) i.now) }
+    {
+        movement(self.vectors_enabled, arch, addressing, encoded, i)
+    }
+
+    /// Does a vector load or store, which is legal.
+    pub fn transfer<P, M: Memory<P>>(
+        &mut self,
+        arch: &mut Arch,
+        memory: &mut M,
+        physical: &mut P,
+        direction: Direction,
+        addressing: Addressing,
+        pattern: &AccessPattern,
+        at: &Setting,
+    ) -> Progress
+        requires moves { Moves arch.old.v pattern.now at.now }
+        requires addressing { (movement_with pattern.now arch.old.v.words).addressing ≡ addressing }
+        requires fits { M.fits memory.old physical.old }
+        ensures fits { M.fits memory.new physical.new }
+        ensures rest { M.rest memory.new physical.new ≡ M.rest memory.old physical.old }
+        ensures same { self.new ≡ self.old }
+        ensures done { (enabled : Bool) (output : List ℕ) → outcome_of result (flat_of enabled arch.new (M.state memory.new physical.new) output) ≡ Some (transferred (transfer_with (direction_of direction) pattern.now arch.old.v) (flat_of enabled arch.old (M.state memory.old physical.old) output)) }
+    {
+        transfer(
+            &mut self.kept,
+            arch,
+            memory,
+            physical,
+            direction,
+            addressing,
+            pattern,
+            at,
+        )
+    }
+
+    /// Does the elements of a vector load or store that are below k, of which no access fails, and sets vstart to k. It is
+    /// legal.
+    pub fn reach<P, M: Memory<P>>(
+        &mut self,
+        arch: &mut Arch,
+        memory: &mut M,
+        physical: &mut P,
+        direction: Direction,
+        pattern: &AccessPattern,
+        at: &Setting,
+        k: u32,
+    )
+        requires moves { Moves arch.old.v pattern.now at.now }
+        requires from { arch.old.v.vstart ≤ k }
+        requires below { k < movement_count (movement_with pattern.now arch.old.v.words) }
+        requires free { first_failure (direction_of direction) (M.state memory.old physical.old) (accesses_between (movement_with pattern.now arch.old.v.words) 0 k) ≡ None }
+        requires fits { M.fits memory.old physical.old }
+        ensures fits { M.fits memory.new physical.new }
+        ensures rest { M.rest memory.new physical.new ≡ M.rest memory.old physical.old }
+        ensures same { self.new ≡ self.old }
+        ensures done { (enabled : Bool) (output : List ℕ) → flat_of enabled arch.new (M.state memory.new physical.new) output ≡ below_done (transfer_with (direction_of direction) pattern.now arch.old.v) k (flat_of enabled arch.old (M.state memory.old physical.old) output) }
+        ensures prefix { (enabled : Bool) (output : List ℕ) → let s = flat_of enabled arch.old (M.state memory.old physical.old) output in
+            transfer_next s (upcoming s) ≡ Some (transfer_with (direction_of direction) pattern.now arch.old.v) → prefix_at k s ≡ Some (flat_of enabled arch.new (M.state memory.new physical.new) output) }
+    {
+        reach(
+            &mut self.kept,
+            arch,
+            memory,
+            physical,
+            direction,
+            pattern,
+            at,
+            k,
+        )
+    }
+
+    /// Does an instruction, whose word this is, unless it asks for a service, and says its class where it is executed.
+    #[inline(always)]
+    fn advance_by<P, M: Memory<P>>(
+        &mut self,
+        arch: &mut Arch,
+        memory: &mut M,
+        physical: &mut P,
+        word: u32,
+        known: Known,
+    ) -> Advance
+        requires valid { IsValid known.instr }
+        requires fits { M.fits memory.old physical.old }
+        ensures fits { M.fits memory.new physical.new }
+        ensures rest { M.rest memory.new physical.new ≡ M.rest memory.old physical.old }
+        ensures same { self.new ≡ self.old }
+        ensures class { (output : List ℕ) → result.class ≡ class_next (meaning (flat_of self.old arch.old (M.state memory.old physical.old) output) word (Some known.instr)) }
+        ensures waits { asks result.class ≡ true → (output : List ℕ) → flat_of self.new arch.new (M.state memory.new physical.new) output ≡ flat_of self.old arch.old (M.state memory.old physical.old) output }
+        ensures performed { (output : List ℕ) → let s = flat_of self.old arch.old (M.state memory.old physical.old) output in
+            outcome_of result.progress (flat_of self.new arch.new (M.state memory.new physical.new) output) ≡ outcome_next s (meaning s word (Some known.instr)) }
+    {
+        let Some(progress) = self.perform(arch, memory, physical, known.class, known.instr) else {
+            return Advance {
+                class: None,
+                progress: fault(arch, 2, u64::from(word)),
+            };
+        };
+        Advance {
+            class: Some(known.class),
+            progress,
+        }
+    }
+
+    /// Does an instruction of a class, unless it asks for a service. `None` where it isn't executed or isn't legal; then
+    /// nothing changes.
+    #[tactic(auto, using(crate::proofs::Performable::names_registers))]
+    #[inline(always)]
+    fn perform<P, M: Memory<P>>(
+        &mut self,
+        arch: &mut Arch,
+        memory: &mut M,
+        physical: &mut P,
+        class: Class,
+        i: Instr,
+    ) -> Option<Progress>
+        requires valid { IsValid i }
+        requires class { class ≡ class_of i.op }
+        requires fits { M.fits memory.old physical.old }
+        ensures fits { M.fits memory.new physical.new }
+        ensures rest { M.rest memory.new physical.new ≡ M.rest memory.old physical.old }
+        ensures same { self.new ≡ self.old }
+        ensures legal { (output : List ℕ) → is_some result ≡ (is_executed self.old class && is_legal_as class (flat_of self.old arch.old (M.state memory.old physical.old) output) i) }
+        ensures illegal { result ≡ None → (output : List ℕ) → flat_of self.new arch.new (M.state memory.new physical.new) output ≡ flat_of self.old arch.old (M.state memory.old physical.old) output }
+        ensures waits { is_service_class class ≡ true → (output : List ℕ) → flat_of self.new arch.new (M.state memory.new physical.new) output ≡ flat_of self.old arch.old (M.state memory.old physical.old) output }
+        ensures performed { IfSome result (λ p. (output : List ℕ) → outcome_of p (flat_of self.new arch.new (M.state memory.new physical.new) output) ≡ outcome_as class (flat_of self.old arch.old (M.state memory.old physical.old) output) i) }
+    {
+        match class {
+            Class::Arithmetic | Class::Multiply | Class::Divide => Some(affect(arch, i)),
+            Class::Jump | Class::Branch | Class::Fence => Some(affect(arch, i)),
+            Class::Load => Some(load(arch, memory, physical, i)),
+            Class::Store => Some(store(arch, memory, physical, i)),
+            Class::Ecall => Some(Progress::Asks),
+            Class::Ebreak => Some(fault(arch, 3, 0)),
+            Class::Csr => control(self.vectors_enabled, arch, i),
+            Class::Set => configure(self.vectors_enabled, arch, i),
+            Class::VectorArithmetic(family) => {
+                calculate_legal(self.vectors_enabled, &mut self.calculator, arch, i, family)
+            }
+            Class::VectorLoad(addressing, encoded) => load_vectors(
+                self.vectors_enabled,
+                &mut self.kept,
+                arch,
+                memory,
+                physical,
+                addressing,
+                encoded,
+                i,
+            ),
+            Class::VectorStore(addressing, encoded) => store_vectors(
+                self.vectors_enabled,
+                &mut self.kept,
+                arch,
+                memory,
+                physical,
+                addressing,
+                encoded,
+                i,
+            ),
+        }
+    }
+}

@@ -1,0 +1,32 @@
+use vx_base::Fault;
+use vx_decode::Known;
+use vx_rows::Class;
+
+/// What became of an instruction.
+#[derive(Clone, Copy, PartialEq, Eq, Debug)]
+pub enum Progress {
+    /// It has completed.
+    Completed,
+    /// It asks for a service, and nothing has changed.
+    Asks,
+    /// It faulted.
+    Faulted(Fault),
+}
+
+/// What stands at the pc.
+#[derive(Clone, Copy, Debug)]
+pub enum Found {
+    /// It can't be fetched.
+    Denied,
+    /// A word that means no instruction.
+    Unknown(u32),
+    /// A word, and the instruction that it means.
+    Known(u32, Known),
+}
+
+/// A step: the class of what came next, where it is an instruction that is executed, and what became of it.
+#[derive(Clone, Copy, Debug)]
+pub struct Advance {
+    pub class: Option<Class>,
+    pub progress: Progress,
+}
