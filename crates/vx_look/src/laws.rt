@@ -1,12 +1,23 @@
 ghost use Rattle.std.specs.Prelude.{◌≡◌, ◌≢◌, ℕ, false, List, ◌∷◌, ◌++◌};
 ghost use Rattle.vx_base.specs.Pages.{IsPageList};
 ghost use Rattle.vx_base.specs.declared.machine.Want.{Want};
-ghost use Rattle.vx_episode.specs.History.{Walk, after_walks};
+ghost use Rattle.vx_episode.specs.Batches.{fate_of};
+ghost use Rattle.vx_episode.specs.Footprint.{Access};
+ghost use Rattle.vx_episode.specs.History.{History, BatchTimes, Walk, walks_of_batches, fills_of, after_walks};
+ghost use Rattle.vx_episode.specs.Organisation.{Start};
+ghost use Rattle.vx_look.specs.Fates.{IsWordBelow};
 ghost use Rattle.vx_look.specs.Fetches.{is_away};
+ghost use Rattle.vx_look.specs.Filled.{AreFilledBelow};
 ghost use Rattle.vx_tables.specs.Residency.{Residency, pages_of, is_store, page_map, after_walk};
 ghost use Rattle.vx_tables.specs.Walks.{walk_port};
 
 use vx_tables::walks_go_side_by_side;
+
+/// Where the pages that a cache keeps, with those of a batch's walks, lie in the memory's frames, so do the words of its accesses.
+pub fn words_lie_in_frames()
+    ensures { (start : Start) (history : History) (earlier : List BatchTimes) (want : Want) (started : ℕ) (walks : List Walk) (a : Access) (frames : ℕ) → AreFilledBelow frames (fills_of (walks ++ walks_of_batches earlier))
+        → IsWordBelow frames (fate_of start history earlier want started walks a) }
+{}
 
 /// Walks leave the same residency in whatever order they are made. None moves a page; one that isn't for a store changes no
 /// answer of another, nor does one on the other port.
