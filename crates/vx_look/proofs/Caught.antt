@@ -1,5 +1,5 @@
 -- The pages that caches keep lie in frames of the memory.
-use Rattle.std.proofs.Common.{◌≡◌, ℕ, suc, ◌<◌, ◌≤◌, ◌%◌, true, false, eqb, inl, inr, List, [], ◌∷◌, length, Some, None, refl, sym, ap, subst, ◌∙◌, arith}
+use Rattle.std.proofs.Common.{◌≡◌, ℕ, suc, ◌<◌, ◌≤◌, ◌%◌, eqb, inl, inr, List, [], ◌∷◌, length, Some, None, sym, subst, ◌∙◌, arith}
 use Rattle.std.specs.Prelude.{Option, Bool, find, IfSome, not, ◌&&◌}
 use Rattle.std.proofs.lemmas.Bool.{cases_Bool}
 use Rattle.vx_base.specs.Permissions.{grants}

@@ -1,11 +1,11 @@
 -- The words of accesses lie in the frames in which pages were found.
-use Rattle.std.proofs.Common.{◌≡◌, ℕ, ◌+◌, ◌*◌, ◌/◌, ◌%◌, ◌<◌, true, false, inl, inr, List, [], ◌∷◌, ◌++◌, Some, None, refl, sym, ap, subst, ◌∙◌, arith}
+use Rattle.std.proofs.Common.{ℕ, ◌+◌, ◌*◌, ◌/◌, ◌%◌, ◌<◌, true, false, inl, inr, List, [], ◌∷◌, ◌++◌, Some, None, arith}
 use Rattle.std.specs.Prelude.{Option, Bool, find, IfSome, if◌then◌else◌}
 use Rattle.std.proofs.lemmas.Bool.{cases_Bool}
 use Rattle.vx_base.specs.declared.machine.Want.{Want}
 use Rattle.vx_image.specs.Pages.{page_of}
-use Rattle.vx_episode.specs.Batches.{Fate, is_refused, fate_walked, fate_by_walk, is_of_page, fate_looked, look_of, fate_of}
-use Rattle.vx_episode.specs.Batches.Fate.{Good, Fails, Unknown}
+use Rattle.vx_episode.specs.Batches.{is_refused, fate_walked, fate_by_walk, is_of_page, fate_looked, look_of, fate_of}
+use Rattle.vx_episode.specs.Batches.Fate.{Fails}
 use Rattle.vx_episode.specs.Footprint.{Access}
 use Rattle.vx_episode.specs.History.{History, Walk, BatchTimes, walks_of_batches, fills_of}
 use Rattle.vx_episode.specs.Organisation.{Start, data_entries}

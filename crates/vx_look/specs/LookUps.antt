@@ -1,5 +1,5 @@
 -- What the look-ups and walks of a batch leave. This project's own.
-use Rattle.std.specs.Prelude.{◌≡◌, ℕ, ◌==◌, ◌&&◌, List, [], ◌∷◌, ◌++◌, map, Option, None, if◌then◌else◌}
+use Rattle.std.specs.Prelude.{◌≡◌, ℕ, ◌==◌, ◌&&◌, List, [], ◌++◌, map, Option, None, if◌then◌else◌}
 use Rattle.vx_base.specs.declared.machine.Want.{Want}
 use Rattle.vx_cells.specs.Cells.{CellsState}
 use Rattle.vx_episode.specs.Batches.{Fate as Meant, is_unknown, fate_walked, fate_of, walks_end, walks_of}
