@@ -1,11 +1,11 @@
 -- Batches of several accesses, a walk at a time.
 use Rattle.std.proofs.Common.{◌≡◌, ℕ, zero, suc, ◌+◌, ◌<◌, true, false, List, [], ◌∷◌, ◌++◌, map, length, get_or, refl, sym, ap, subst, ◌∙◌, arith}
-use Rattle.std.specs.Prelude.{Option, Bool, ◌==◌, ◌&&◌, if◌then◌else◌}
+use Rattle.std.specs.Prelude.{Option}
 use Rattle.std.proofs.lemmas.List.{length-map}
 use Rattle.vx_base.specs.declared.machine.Want.{Want}
 use Rattle.vx_cells.specs.Cells.{CellsState}
 use Rattle.vx_image.specs.Pages.{page_of}
-use Rattle.vx_episode.specs.Batches.{Fate as Meant, is_unknown, fate_walked, fate_of, walks_end, walk_behind, walks_with}
+use Rattle.vx_episode.specs.Batches.{Fate as Meant, is_unknown, fate_of, walk_behind, walks_with}
 use Rattle.vx_episode.specs.Footprint.{Access}
 use Rattle.vx_episode.specs.History.{History, Walk, BatchTimes, fetch_walks, walks_of_batches, after_walks}
 use Rattle.vx_episode.specs.Instructions.{walk_time}
@@ -13,7 +13,7 @@ use Rattle.vx_episode.specs.Organisation.{Start}
 use Rattle.vx_look.proofs.Going.{IsWalked-more}
 use Rattle.vx_look.proofs.Judging.{fate, fate-behind, walks_with-known, walks_with-unknown}
 use Rattle.vx_look.specs.Fates.{told}
-use Rattle.vx_look.specs.LookUps.{AreGoing, AreOf, IsWalked, updated, no_access}
+use Rattle.vx_look.specs.LookUps.{AreGoing, AreOf, updated, no_access}
 use Rattle.vx_look.specs.declared.fate.Fate.{Fate}
 use Rattle.vx_tables.specs.Caches.{Fill, filled_by}
 use Rattle.vx_tables.specs.Walking.{Walks}

@@ -1,13 +1,12 @@
 -- A fetch with its look-up, and with its walk.
-use Rattle.std.proofs.Common.{◌≡◌, ℕ, ◌+◌, ◌<◌, true, false, List, [], ◌∷◌, ◌++◌, Some, None, refl, sym, ap, subst, ◌∙◌}
+use Rattle.std.proofs.Common.{◌≡◌, ℕ, ◌+◌, ◌<◌, true, false, List, ◌++◌, refl, sym, ap, subst, ◌∙◌}
 use Rattle.std.specs.Prelude.{Option, Bool, ◌&&◌, if◌then◌else◌}
 use Rattle.std.proofs.lemmas.Bool.{false≢true}
 use Rattle.vx_base.specs.declared.machine.Want.TheVariants.{Fetch}
 use Rattle.vx_cells.specs.Cells.{CellsState}
 use Rattle.vx_image.specs.Pages.{is_canonical, page_of}
-use Rattle.vx_episode.specs.Cycles.{Cycle}
 use Rattle.vx_episode.specs.Cycles.Cycle.{At}
-use Rattle.vx_episode.specs.History.{History, Walk, FetchTimes, data_walks, fetch_walks, fills_of, after_walks}
+use Rattle.vx_episode.specs.History.{History, Walk, FetchTimes, data_walks, fetch_walks, fills_of}
 use Rattle.vx_episode.specs.Instructions.{walk_time, residency_now, fetch_walk, fetch_at, fetch_walked, fetch_by, fetch_times}
 use Rattle.vx_episode.specs.Organisation.{Start, fetch_entries}
 use Rattle.vx_look.proofs.Going.{others-start}

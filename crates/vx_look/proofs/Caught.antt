@@ -1,5 +1,5 @@
 -- The pages that caches keep lie in frames of the memory.
-use Rattle.std.proofs.Common.{◌≡◌, ℕ, suc, ◌<◌, ◌≤◌, ◌%◌, true, false, eqb, inl, inr, List, [], ◌∷◌, length, Some, None, refl, sym, ap, subst, ◌∙◌, arith}
+use Rattle.std.proofs.Common.{◌≡◌, ℕ, suc, ◌<◌, ◌≤◌, ◌%◌, eqb, inl, inr, List, [], ◌∷◌, length, Some, None, sym, subst, ◌∙◌, arith}
 use Rattle.std.specs.Prelude.{Option, Bool, find, IfSome, not, ◌&&◌}
 use Rattle.std.proofs.lemmas.Bool.{cases_Bool}
 use Rattle.vx_base.specs.Permissions.{grants}
@@ -50,7 +50,7 @@ look-below entries frames page want fills all =
 
 -- ---- fills
 
-filled-below : (frames page : ℕ) (answered : Walked) (fills : List Fill) → IsFoundBelow frames answered → AreFilledBelow frames fills → AreFilledBelow frames (filled_by page answered fills)
+pub filled-below : (frames page : ℕ) (answered : Walked) (fills : List Fill) → IsFoundBelow frames answered → AreFilledBelow frames fills → AreFilledBelow frames (filled_by page answered fills)
 filled-below frames page (walked.Leaf frame perm dirty) fills found all = (found, all)
 filled-below frames page walked.Away fills found all = all
 filled-below frames page walked.Denied fills found all = all
@@ -89,6 +89,11 @@ wider : (frames : ℕ) (answered : Walked) → frames ≤ 16384 → IsFoundBelow
 wider frames (walked.Leaf frame perm dirty) le lt = omega arith
 wider frames walked.Away le found = tt
 wider frames walked.Denied le found = tt
+
+pub page_map-below : (frames : ℕ) (residency : Residency) (address : ℕ) (want : Want) → AreBelow frames residency → IsFoundBelow frames (page_map residency address want)
+page_map-below frames residency address want all =
+    subst (IsFoundBelow frames) (sym (page_map-is residency address want))
+    (answer-below frames want (placed (page_of address) residency) (placed-below frames (page_of address) residency all))
 
 pub answered-below : (frames : ℕ) (residency : Residency) (address : ℕ) (want : Want) (answered : Walked) → frames ≤ 16384 → AreBelow frames residency → answered ≡ page_map residency address want → IsFoundBelow 16384 answered
 answered-below frames residency address want answered le all is =

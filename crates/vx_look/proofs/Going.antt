@@ -1,6 +1,6 @@
 -- Walks one behind another, and what they leave.
-use Rattle.std.proofs.Common.{◌≡◌, ℕ, ◌+◌, ◌<◌, true, false, List, [], ◌∷◌, ◌++◌, map, refl, sym, ap, subst, ◌∙◌}
-use Rattle.std.specs.Prelude.{Option, Bool}
+use Rattle.std.proofs.Common.{◌≡◌, ℕ, ◌+◌, true, false, List, [], ◌∷◌, ◌++◌, map, refl, sym, ap, subst, ◌∙◌}
+use Rattle.std.specs.Prelude.{Option}
 use Rattle.vx_base.specs.declared.machine.Want.{Want}
 use Rattle.vx_base.specs.declared.perm.PageEntry.{PageEntry}
 use Rattle.vx_cells.specs.Cells.{CellsState}
@@ -10,9 +10,11 @@ use Rattle.vx_episode.specs.Footprint.{Access}
 use Rattle.vx_episode.specs.History.{History, Walk, BatchTimes, fetch_walks, walks_of_batches, fills_of, after_walks}
 use Rattle.vx_episode.specs.Instructions.{walk_time}
 use Rattle.vx_episode.specs.Organisation.{Start}
+use Rattle.vx_look.proofs.Caught.{filled-below, page_map-below}
 use Rattle.vx_look.proofs.Judging.{fate, fate-own, walks_with-known, walks_with-unknown, walks_of-one}
 use Rattle.vx_look.proofs.Orders.{after_walks-joined, after_walks-swapped, pages_of-after_walks}
 use Rattle.vx_look.specs.Fates.{told}
+use Rattle.vx_look.specs.Filled.{IsFoundBelow}
 use Rattle.vx_look.specs.LookUps.{AreReady, AreLookedUp, AreLookedUpBy, IsWalked}
 use Rattle.vx_look.specs.declared.fate.Fate.{Fate}
 use Rattle.vx_tables.specs.Caches.{Fill, filled_by}
@@ -36,7 +38,7 @@ after_walks-middle residency walks fetched others =
 
 module _ (start : Start) (history : History) (earlier : List BatchTimes) (want : Want) (started root : ℕ) where
   pub IsWalked-none : (places : List (Option Kept)) (cells : CellsState) → AreReady start history earlier root places cells → IsWalked start history earlier root [] places cells cells
-  IsWalked-none places cells ready = record { kept = ready.kept; held = ready.held; frames = refl; cycle = refl; others = λ word out. refl }
+  IsWalked-none places cells ready = record { kept = ready.kept; held = ready.held; below = λ below. below; frames = refl; cycle = refl; others = λ word out. refl }
 
   pub IsWalked-more : (walks : List Walk) (a : Access) (address : ℕ) (places now : List (Option Kept)) (before between after : CellsState) (answered : Walked) → a.address ≡ address → IsWalked start history earlier root walks places before between
       → Walks between after (after_walks start.residency (walks ++ fetch_walks history ++ walks_of_batches earlier)) root address want answered
@@ -51,6 +53,10 @@ module _ (start : Start) (history : History) (earlier : List BatchTimes) (want :
       record {
         kept = subst (λ (w : Walked). StandsFor now (filled_by (page_of a.address) w (fills_of (walks ++ walks_of_batches earlier)))) walk.answer kept;
         held = walk.held;
+        below = λ below.
+            filled-below before.frames (page_of a.address) (walk_behind start history earlier want started walks a).answer (fills_of (walks ++ walks_of_batches earlier))
+            (subst (λ (n : ℕ). IsFoundBelow n (walk_behind start history earlier want started walks a).answer) done.frames (page_map-below between.frames (after_walks start.residency all) a.address want done.held.pages))
+            (done.below below);
         frames = walk.makes.frames ∙ done.frames;
         cycle = walk.makes.cycle ∙ done.cycle;
         others = λ word out. others-start start.residency all root between.contents after.contents walk.others word out ∙ done.others word out;
@@ -64,6 +70,7 @@ module _ (start : Start) (history : History) (earlier : List BatchTimes) (want :
     fates = fates;
     kept = done.kept;
     held = subst (λ (r : Residency). AreHeld after root r) (after_walks-middle start.residency walks (fetch_walks history) (walks_of_batches earlier)) done.held;
+    below = done.below;
     frames = done.frames;
     cycle = done.cycle;
     others = done.others;

@@ -1,11 +1,11 @@
 -- The fates of accesses, and the walks of a batch, an access at a time.
-use Rattle.std.proofs.Common.{◌≡◌, ℕ, ◌/◌, ◌≢◌, true, false, eqb, inl, inr, List, [], ◌∷◌, Some, None, refl, sym, ap, subst, ◌∙◌}
+use Rattle.std.proofs.Common.{◌≡◌, ℕ, true, false, eqb, inl, inr, List, [], ◌∷◌, Some, None, refl, sym, ap, ◌∙◌}
 use Rattle.std.specs.Prelude.{Option, Bool, find, ◌&&◌, ◌==◌, if◌then◌else◌}
 use Rattle.std.proofs.lemmas.Bool.{cases_Bool, eqb-true, eq-eqb, ne_eqb, false≢true}
 use Rattle.vx_base.specs.declared.machine.Want.{Want}
 use Rattle.vx_image.specs.Pages.{page_of}
 use Rattle.vx_episode.specs.Batches.{Fate, is_refused, fate_walked, fate_by_walk, is_of_page, fate_looked, is_failing, is_unknown, look_of, fate_of, walk_behind, walks_with, walks_of}
-use Rattle.vx_episode.specs.Batches.Fate.{Good, Fails, Unknown}
+use Rattle.vx_episode.specs.Batches.Fate.{Fails}
 use Rattle.vx_episode.specs.Footprint.{Access}
 use Rattle.vx_episode.specs.History.{History, Walk, BatchTimes}
 use Rattle.vx_episode.specs.Organisation.{Start}

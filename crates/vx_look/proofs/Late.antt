@@ -1,6 +1,6 @@
 -- Walks that end behind a cycle change nothing that is known by then.
 use Rattle.std.proofs.Common.{◌≡◌, ℕ, ◌+◌, ◌<◌, true, false, inl, inr, List, [], ◌∷◌, refl, sym, ap, subst, ◌∙◌, arith}
-use Rattle.std.specs.Prelude.{Bool, ◌⊎◌, ◌==◌, ◌&&◌, nat_le, if◌then◌else◌}
+use Rattle.std.specs.Prelude.{Bool, ◌==◌, ◌&&◌, if◌then◌else◌}
 use Rattle.std.proofs.lemmas.Bool.{cases_Bool, lt-leb, false≢true}
 use Rattle.vx_base.specs.declared.machine.Want.{Want}
 use Rattle.vx_image.specs.Pages.{page_of}

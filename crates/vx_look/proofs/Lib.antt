@@ -9,3 +9,4 @@ pub mod Settled
 pub mod Reached
 pub mod Late
 pub mod Sooner
+pub mod Words

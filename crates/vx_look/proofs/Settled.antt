@@ -1,12 +1,6 @@
 -- A list of fates, set one by one.
-use Rattle.std.proofs.Common.{◌≡◌, ◌≢◌, ℕ, zero, suc, ◌+◌, ◌<◌, false, eqb, inl, inr, List, [], ◌∷◌, length, get_or, set, refl, sym, subst, ◌∙◌, arith, get_or-set_same, get_or-set_other}
+use Rattle.std.proofs.Common.{◌≡◌, ◌≢◌, ℕ, zero, suc, ◌+◌, ◌<◌, eqb, inl, inr, List, [], ◌∷◌, length, get_or, set, refl, sym, subst, ◌∙◌, arith, get_or-set_same, get_or-set_other}
 use Rattle.std.proofs.lemmas.Bool.{cases_Bool, eqb-true, eq-eqb, false≢true}
-
--- what stands within a list doesn't depend on what would stand behind it
-pub any-default : (X : Type 0) (xs : List X) (k : ℕ) (d e : X) → k < length xs → get_or xs k d ≡ get_or xs k e
-any-default X [] k d e lt = absurd (omega (arith, lt))
-any-default X (x ∷ xs) zero d e lt = refl
-any-default X (x ∷ xs) (suc k) d e lt = any-default X xs k d e (omega arith)
 
 -- what holds of each place so far, and of what the next is set to, holds of each place up to it
 pub set-more : (X : Type 0) (P : ℕ → X → Type 0) (xs : List X) (k : ℕ) (x d : X) → k < length xs → ((j : ℕ) → j < k → P j (get_or xs j d)) → P k x → (j : ℕ) → j < k + 1 → P j (get_or (set xs k x) j d)

@@ -1,7 +1,7 @@
 -- How far the walks of a batch are made, of those that end by a cycle.
 use Rattle.std.proofs.Common.{◌≡◌, ℕ, suc, ◌+◌, ◌<◌, ◌≤◌, true, false, inl, inr, List, [], ◌∷◌, map, length, get_or, drop, refl, sym, ap, subst, ◌∙◌, arith}
 use Rattle.std.specs.Prelude.{Option, Bool, ◌||◌, not, nat_le, if◌then◌else◌}
-use Rattle.std.proofs.lemmas.Bool.{cases_Bool, leb-true, leb-false, le-leb, false≢true}
+use Rattle.std.proofs.lemmas.Bool.{cases_Bool, leb-false, false≢true}
 use Rattle.std.proofs.lemmas.List.{drop_all}
 use Rattle.vx_base.specs.declared.machine.Want.{Want}
 use Rattle.vx_cells.specs.Cells.{CellsState}
@@ -14,8 +14,8 @@ use Rattle.vx_look.proofs.Batched.{at-each, same-length}
 use Rattle.vx_look.proofs.Going.{IsWalked-none, IsWalked-all}
 use Rattle.vx_look.proofs.Judging.{fate, walks_with-known, walks_with-unknown}
 use Rattle.vx_look.proofs.Late.{IsSame, late-all}
-use Rattle.vx_look.proofs.Reached.{IsReached, reached-go, reached-rest, reached-fate, walks-stop}
-use Rattle.vx_look.specs.Aheads.{AgreeAt, ended_by, AreLookedAhead, AreLookedAheadBy}
+use Rattle.vx_look.proofs.Reached.{reached-go, reached-rest, reached-fate, walks-stop}
+use Rattle.vx_look.specs.Aheads.{AgreeAt, ended_by, AreLookedAhead}
 use Rattle.vx_look.specs.Fates.{told}
 use Rattle.vx_look.specs.LookUps.{AreGoing, AreLookedUpBy, AreReady, no_access}
 use Rattle.vx_look.specs.declared.fate.Fate.{Fate}

@@ -1,5 +1,5 @@
 -- The fates of accesses, as the program has them. This project's own.
-use Rattle.std.specs.Prelude.{ℕ, ◌<◌, ◌≤◌, Bool, true, false, List, All}
+use Rattle.std.specs.Prelude.{ℕ, ◌*◌, ◌<◌, ◌≤◌, Bool, true, false, List, All}
 use Rattle.vx_episode.specs.Batches.{Fate}
 use Rattle.vx_episode.specs.Batches.Fate.{Good, Fails, Unknown}
 use Rattle.vx_look.specs.declared.fate.Fate.{Fate as Known}
@@ -21,6 +21,12 @@ IsKnownBy last known.Unknown = Unit {0}
 
 abbrev pub AreKnownBy : (last : ℕ) → List Known → Type 0
 AreKnownBy last fates = All (IsKnownBy last) fates
+
+-- the word of an access lies in one of so many frames
+abbrev pub IsWordBelow : (frames : ℕ) → Fate → Type 0
+IsWordBelow frames (Good cycle word) = word < 512 * frames
+IsWordBelow frames (Fails cycle is_away) = Unit {0}
+IsWordBelow frames Unknown = Unit {0}
 
 -- a look-up that leads to a walk
 abbrev pub is_miss : Look → Bool

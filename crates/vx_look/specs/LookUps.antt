@@ -1,5 +1,5 @@
 -- What the look-ups and walks of a batch leave. This project's own.
-use Rattle.std.specs.Prelude.{◌≡◌, ℕ, ◌==◌, ◌&&◌, List, [], ◌∷◌, ◌++◌, map, Option, None, if◌then◌else◌}
+use Rattle.std.specs.Prelude.{◌≡◌, ℕ, ◌==◌, ◌&&◌, List, [], ◌++◌, map, Option, None, if◌then◌else◌}
 use Rattle.vx_base.specs.declared.machine.Want.{Want}
 use Rattle.vx_cells.specs.Cells.{CellsState}
 use Rattle.vx_episode.specs.Batches.{Fate as Meant, is_unknown, fate_walked, fate_of, walks_end, walks_of}
@@ -8,6 +8,7 @@ use Rattle.vx_episode.specs.History.{History, Walk, BatchTimes, fetch_walks, wal
 use Rattle.vx_episode.specs.Organisation.{Start}
 use Rattle.vx_image.specs.Pages.{page_of}
 use Rattle.vx_look.specs.Fates.{told}
+use Rattle.vx_look.specs.Filled.{AreFilledBelow}
 use Rattle.vx_look.specs.declared.fate.Fate.{Fate}
 use Rattle.vx_tables.specs.Residency.{pages_of}
 use Rattle.vx_tables.specs.Tables.{AreHeld, SameBut, table_count}
@@ -22,6 +23,8 @@ pub record AreLookedUpBy (start : Start) (history : History) (earlier : List Bat
   pub fates : map told known ≡ map (fate_of start history earlier want started walks) accesses
   pub kept : StandsFor places (fills_of (walks ++ walks_of_batches earlier))
   pub held : AreHeld after root (after_walks start.residency (fetch_walks history ++ walks ++ walks_of_batches earlier))
+  -- where the pages that were kept before lie in the memory's frames, those that are kept now do
+  pub below : AreFilledBelow before.frames (fills_of (walks_of_batches earlier)) → AreFilledBelow before.frames (fills_of (walks ++ walks_of_batches earlier))
   pub frames : after.frames ≡ before.frames
   pub cycle : after.cycle ≡ before.cycle
   pub others : SameBut root (table_count (pages_of start.residency)) before.contents after.contents
@@ -50,6 +53,8 @@ updated page ended answered a fate = if is_unknown fate && page_of a.address == 
 pub record IsWalked (start : Start) (history : History) (earlier : List BatchTimes) (root : ℕ) (walks : List Walk) (places : List (Option Kept)) (before after : CellsState) : Type 0 where
   pub kept : StandsFor places (fills_of (walks ++ walks_of_batches earlier))
   pub held : AreHeld after root (after_walks start.residency (walks ++ fetch_walks history ++ walks_of_batches earlier))
+  -- where the pages that were kept before lie in the memory's frames, those that are kept now do
+  pub below : AreFilledBelow before.frames (fills_of (walks_of_batches earlier)) → AreFilledBelow before.frames (fills_of (walks ++ walks_of_batches earlier))
   pub frames : after.frames ≡ before.frames
   pub cycle : after.cycle ≡ before.cycle
   pub others : SameBut root (table_count (pages_of start.residency)) before.contents after.contents

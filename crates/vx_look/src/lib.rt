@@ -15,5 +15,5 @@ mod pages;
 
 pub use fate::{Fate, Looked};
 pub use fetching::{FetchLookUps, Fetched};
-pub use laws::walks_commute;
+pub use laws::{accesses_are_of_their_items, walks_commute, words_lie_in_frames};
 pub use looking::DataLookUps;

@@ -1,4 +1,4 @@
-use Rattle.std.proofs.Common.{◌≡◌, ℕ, ◌+◌, ◌*◌, ◌<◌, ◌≤◌, length, get_or, refl, sym, ap, ◌∙◌, arith}
+use Rattle.std.proofs.Common.{ℕ, ◌*◌, ◌<◌, ◌≤◌, length, refl, sym, ap, ◌∙◌, arith}
 use Rattle.vx_cells.specs.Cells.{CellsState}
 use Rattle.vx_look.proofs.Sooner.{ahead-none, ahead-all, ahead-late, ahead-stop, ahead-more}
 use Rattle.vx_look.proofs.ahead.walk_ahead.Goals as goal

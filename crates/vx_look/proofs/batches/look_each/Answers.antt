@@ -1,14 +1,12 @@
-use Rattle.std.proofs.Common.{◌≡◌, ℕ, ◌<◌, [], List, length, get_or, sym, ap, ◌∙◌, arith, length-set}
+use Rattle.std.proofs.Common.{◌≡◌, ℕ, ◌<◌, [], length, get_or, sym, ap, ◌∙◌, arith, length-set}
+use Rattle.std.proofs.lemmas.List.{get_or_default}
 use Rattle.vx_episode.specs.Batches.{fate_of}
 use Rattle.vx_episode.specs.Footprint.{Access}
-use Rattle.vx_episode.specs.History.{History, BatchTimes, walks_of_batches, fills_of}
-use Rattle.vx_episode.specs.Organisation.{Start}
 use Rattle.vx_look.proofs.Batched.{fates-each}
-use Rattle.vx_look.proofs.Settled.{any-default, set-more}
+use Rattle.vx_look.proofs.Settled.{set-more}
 use Rattle.vx_look.proofs.batches.look_each.Goals as goal
 use Rattle.vx_look.specs.Fates.{told, IsKnownBy}
 use Rattle.vx_look.specs.declared.fate.Fate.{Fate}
-use Rattle.vx_tlb.specs.Kept.{StandsFor}
 use Rattle.vx_vaddr.specs.declared.item.Item.{Item}
 
 pub loop-k-preserved : goal.loop-k-preserved
@@ -25,8 +23,8 @@ loop-k-preserved c =
           c.loop-k.fates c.loop-k.k c.fate_looked.result d within
           (λ n below e a at width. c.loop-k.invariant.done n d e a start history earlier below at width stands)
           (λ e a at width.
-          c.fate_looked.ensures.looked start history earlier a (at ∙ ap (λ (i : Item). i.address) (any-default Item c.args.items.now c.loop-k.k e _ item))
-          (width ∙ ap (λ (i : Item). i.width) (any-default Item c.args.items.now c.loop-k.k e _ item) ∙ sym c.from-width.ensures) stands)
+          c.fate_looked.ensures.looked start history earlier a (at ∙ ap (λ (i : Item). i.address) (get_or_default c.args.items.now c.loop-k.k e _ item))
+          (width ∙ ap (λ (i : Item). i.width) (get_or_default c.args.items.now c.loop-k.k e _ item) ∙ sym c.from-width.ensures) stands)
           j less e a at width;
     }
 

@@ -1,6 +1,7 @@
 use Rattle.std.proofs.Common.{◌≡◌, ◌≢◌, ℕ, ◌<◌, ◌≤◌, length, get_or, sym, ap, subst, ◌∙◌, arith, length-set, get_or-set_other}
+use Rattle.std.proofs.lemmas.List.{get_or_default}
 use Rattle.vx_episode.specs.Footprint.{Access}
-use Rattle.vx_look.proofs.Settled.{any-default, set-more}
+use Rattle.vx_look.proofs.Settled.{set-more}
 use Rattle.vx_look.proofs.batches.settle.Goals as goal
 use Rattle.vx_look.specs.Fates.{told, IsKnownBy}
 use Rattle.vx_look.specs.LookUps.{updated}
@@ -20,8 +21,8 @@ loop-k-preserved c =
           c.loop-k.fates c.loop-k.k c.fate_settled.result d within
           (λ n below e a at. c.loop-k.invariant.done n d e a below at)
           (λ e a at.
-          c.fate_settled.ensures.settled a (at ∙ ap (λ (i : Item). i.address) (any-default Item c.args.items.now c.loop-k.k e _ item))
-          ∙ ap (λ (f : Fate). updated c.args.page c.args.ended c.args.walked a (told f)) (c.loop-k.invariant.rest c.loop-k.k _ here ∙ any-default Fate c.args.fates.now c.loop-k.k _ d old))
+          c.fate_settled.ensures.settled a (at ∙ ap (λ (i : Item). i.address) (get_or_default c.args.items.now c.loop-k.k e _ item))
+          ∙ ap (λ (f : Fate). updated c.args.page c.args.ended c.args.walked a (told f)) (c.loop-k.invariant.rest c.loop-k.k _ here ∙ get_or_default c.args.fates.now c.loop-k.k _ d old))
           j less e a at;
       known = λ before le all j d less.
           set-more Fate (λ (n : ℕ) (f : Fate). IsKnownBy c.args.ended f) c.loop-k.fates c.loop-k.k c.fate_settled.result d within

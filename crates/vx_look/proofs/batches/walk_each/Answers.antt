@@ -1,4 +1,4 @@
-use Rattle.std.proofs.Common.{◌≡◌, ℕ, ◌+◌, ◌*◌, ◌<◌, ◌≤◌, length, get_or, sym, ap, ◌∙◌, arith}
+use Rattle.std.proofs.Common.{ℕ, ◌*◌, ◌<◌, ◌≤◌, length, sym, ap, ◌∙◌, arith}
 use Rattle.vx_cells.specs.Cells.{CellsState}
 use Rattle.vx_look.proofs.Reached.{reached-all, reached-stop, reached-more}
 use Rattle.vx_look.proofs.batches.walk_each.Goals as goal

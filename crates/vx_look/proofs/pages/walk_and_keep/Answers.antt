@@ -4,7 +4,6 @@ use Rattle.vx_image.specs.Pages.{page_of}
 use Rattle.vx_look.proofs.pages.walk_and_keep.Goals as goal
 use Rattle.vx_look.specs.Filled.{IsFoundBelow}
 use Rattle.vx_tables.specs.Residency.{after_walk}
-use Rattle.vx_tables.specs.Walking.{Walks}
 
 pub returns-clause-below : goal.returns-clause-below
 returns-clause-below g c =

@@ -1,11 +1,9 @@
-use Rattle.std.proofs.Common.{◌≡◌, ℕ, ◌+◌, ◌*◌, [], List, ◌++◌, sym, ap, subst}
+use Rattle.std.proofs.Common.{ℕ, ◌+◌, ◌*◌, List, ◌++◌, sym, ap, subst}
 use Rattle.std.specs.Prelude.{Option}
 use Rattle.vx_cells.specs.Cells.{CellsState}
-use Rattle.vx_episode.specs.Batches.{fate_of}
 use Rattle.vx_episode.specs.History.{fetch_walks, walks_of_batches, fills_of, after_walks}
 use Rattle.vx_look.proofs.Going.{one-known, one-walked}
 use Rattle.vx_look.proofs.looking.DataLookUps.look_one.Goals as goal
-use Rattle.vx_look.specs.Fates.{told}
 use Rattle.vx_look.specs.LookUps.{AreReady}
 use Rattle.vx_tlb.specs.Kept.{StandsFor}
 use Rattle.vx_tlb.specs.declared.tlb.Kept.{Kept}
