@@ -5,7 +5,7 @@ _start: la      s0, area
         li      s1, 8                           # the distance in bytes, 128 at the most
         mv      a0, s0
         li      a1, 8                           # how many pages are left
-        li      a2, 4096
+        lui     a2, 1                           # 4096, the bytes of a page
 touch:  ld      t0, 0(a0)
         add     a0, a0, a2
         addi    a1, a1, -1
