@@ -46,6 +46,7 @@ class Episode:
     def __init__(self, machine, tables, options, c0, until):
         self.m, self.tables, self.c0, self.until = machine, tables, c0, until
         self.L, self.B, self.K = options["lanes"], options["banks"], options["bank-time"]
+        self.long = options.get("long batches", False)
         self.instructions, self.batches, self.accesses = [], [], []
         self.fills = {"fetch": [], "data": []}
         self.leaf_writes = []
@@ -171,7 +172,7 @@ class Episode:
                 if b.word % self.B == a.word % self.B:
                     a.serve = max(a.serve, b.serve + self.K)
                     break
-            a.done = a.serve + self.K
+            a.done, a.batch = a.serve + self.K, batch
             self.accesses.append(a)
 
     # Q10, Q11
@@ -185,51 +186,69 @@ class Episode:
             self.stop("slice", cycle)
         return self.why is not None
 
+    def groups(self, elements):
+        """the elements of each batch: one, or from R12 on the longest run with at most as many accesses as lanes"""
+        groups = []
+        for k, accesses in elements:
+            if groups and self.long and sum(len(own) for _, own in groups[-1]) + len(accesses) <= self.L:
+                groups[-1].append((k, accesses))
+            else:
+                groups.append([(k, accesses)])
+        return groups
+
+    def batch(self, i, group):
+        batch = Batch(i, group[0][0])
+        batch.accesses = [Access(k, address, size) for k, accesses in group for address, size in accesses]
+        batch.st = self.start(i, batch)
+        return batch
+
     def memory(self, i):
         """the batches of a memory instruction; false where the episode ends within it"""
-        step, m = i.step, self.m
-        pc = m.pc
-        for n, (k, accesses) in enumerate(step.elements):
-            batch = Batch(i, k)
-            batch.accesses = [Access(k, address, size) for address, size in accesses]
-            batch.st = self.start(i, batch)
+        step, m, pc = i.step, self.m, self.m.pc
+        groups = self.groups(step.elements)
+        for n, group in enumerate(groups):
+            batch = self.batch(i, group)
             self.look(batch, step.want)
             self.queue(batch)
             self.batches.append(batch)
             i.batches.append(batch)
             failing = [a for a in batch.accesses if a.known is not None]
+            k = failing[0].element if failing else group[-1][0] + 1
+            for element, _ in group:
+                if element < k:
+                    step.element(element)
+            if failing and step.first_only and k > 0:
+                m.vl = k
+                break
             if failing:
-                if step.first_only and k > 0:
-                    m.vl = k
-                    break
-                done = [a.done for b in i.batches for a in b.accesses if a.done is not None and a.element < k]
-                self.stop("fault", max([batch.en, self.last_ret() + 1] + done))
-                if step.vector:
-                    m.vstart = k
-                cause = CAUSES[step.want] if failing[0].fails == "page" else {"load": 4, "store": 6}[step.want]
-                self.at = (cause, pc, failing[0].address)
+                self.batch_stop(i, batch, failing[0], pc)
                 return False
-            step.element(k)
-            if n < len(step.elements) - 1:
+            if n < len(groups) - 1:
                 done = [a.done for b in i.batches for a in b.accesses]
                 batch.cm = max([self.last_ret() + 1] + done + [b.en for b in i.batches])
                 if self.commit(batch.cm):
-                    m.vstart = k + 1
-                    self.ahead(i, n + 1)
+                    m.vstart = k
+                    self.ahead(i, groups[n + 1])
                     return False
         i.gen = i.batches[-1].en if i.batches else i.t + 1
         i.complete = max([i.t + 1, i.gen] + [a.done for b in i.batches for a in b.accesses if a.done is not None])
         return True
 
-    def ahead(self, i, n):
-        """the batches behind the one whose commit ended the episode: what they look up and queue by then"""
-        for k, accesses in i.step.elements[n:n + 1]:
-            batch = Batch(i, k)
-            batch.accesses = [Access(k, address, size) for address, size in accesses]
-            batch.st = self.start(i, batch)
-            if batch.st <= self.E:
-                self.look(batch, i.step.want)
-                self.queue(batch)
+    def batch_stop(self, i, batch, lowest, pc):
+        step, k = i.step, lowest.element
+        done = [a.done for b in i.batches for a in b.accesses if a.done is not None and a.element < k]
+        E = max([batch.en, self.last_ret() + 1] + done)
+        cause = CAUSES[step.want] if lowest.fails == "page" else {"load": 4, "store": 6}[step.want]
+        if step.vector:
+            self.m.vstart = k
+        self.stop("fault", E, (cause, pc, lowest.address))
+
+    def ahead(self, i, group):
+        """the batch behind the one whose commit ended the episode: what it looks up and queues by then; one behind that starts later"""
+        batch = self.batch(i, group)
+        if batch.st <= self.E:
+            self.look(batch, i.step.want)
+            self.queue(batch)
 
     def run(self):
         while self.why is None:

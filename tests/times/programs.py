@@ -161,9 +161,22 @@ BORDERS = [
     ("the last word of the last page", "j 1f\n.org 4092\n1: nop"),
 ]
 
-# a loop over two pages: its slice ends while the next page's fetch is walked
-ROUNDS = [(f"{n} rounds", f"li t0, {n}\nj 1f\n.org 4084\n1: addi t0, t0, -1\nbnez t0, 1b\ndiv a1, sp, sp\nli a0, 0" + EXIT)
-          for n in (1650, 1653, 1654, 1655, 1656, 1657, 1658)]
+# a loop before a page's end: its slice ends with the last instruction of the page, while the next page's fetch is walked, or around it
+ROUNDS = [(f"{n} rounds, {last.split()[0]}", f"li t0, {n}\nnop\nj 1f\n.org 4084\n1: addi t0, t0, -1\nbnez t0, 1b\n{last}\nli a0, 0" + EXIT)
+          for n in (1659, 1660, 1661, 1662, 1663) for last in ("div a1, sp, sp", "nop", "ld a1, 0(sp)")]
+
+# pages that are so far apart, read in turn; the code fills the page between
+def apart(gap, want):
+    other = f"lui a2, 16\nlui a1, {gap}\nadd a3, a2, a1\n"
+    turns = "\n".join("ld a4, 0(a2)\nld a4, 8(a3)" for _ in range(2))
+    return other + turns + (EXIT if want == "load" else "\nsd a4, 0(a2)") + f"\n.org {4096 * 40}\nnop"
+
+
+# rows that run while vtype is vill
+WITHOUT = ["vmv1r.v v8, v16", "vmv4r.v v8, v16", "vl1re64.v v8, (sp)", "vl2re16.v v8, (sp)", "addi a2, sp, -64\nvs2r.v v8, (a2)",
+           "csrwi vstart, 9\nvl1re32.v v8, (sp)", "csrwi vstart, 6\nvl1re32.v v8, (sp)", "csrwi vstart, 31\nvmv1r.v v8, v16",
+           "li a1, 32\ncsrw vstart, a1\nvmv1r.v v8, v16", "vl1re8.v v8, (sp)\nvmv1r.v v9, v8\nvs1r.v v9, (sp)"]
+
 
 def write(offset, length, to=1):
     """writes so many bytes from so far behind the start of the code, where text stands over a page's end"""
@@ -226,4 +239,7 @@ def families():
     yield "fetches under way at a slice's end", "a loop over two pages", [(n, s, o) for n, s in ROUNDS for o in ("", "--budget 10100")]
     yield ("places of the fetch cache", "calls of a page so far away, some times",
            [(f"{gap} {n}", far(gap, n), "") for gap in (1, 7, 8, 9, 16) for n in (1, 3)])
+    yield ("places of the data cache", "loads of two pages so far apart, in turn",
+           [(f"{gap} {want}", apart(gap, want), "") for gap in (31, 32, 33) for want in ("load", "store")])
+    yield "without a vtype", "rows of whole registers run while vill is set", [(s.replace("\n", " / "), s + EXIT, o) for s in WITHOUT for o in ("", ONE)]
     yield "writes", "the words of a service's pieces", [(n, s, "") for n, s in WRITES]
