@@ -241,5 +241,5 @@ def families():
            [(f"{gap} {n}", far(gap, n), "") for gap in (1, 7, 8, 9, 16) for n in (1, 3)])
     yield ("places of the data cache", "loads of two pages so far apart, in turn",
            [(f"{gap} {want}", apart(gap, want), "") for gap in (31, 32, 33) for want in ("load", "store")])
-    yield "without a vtype", "rows of whole registers run while vill is set", [(s.replace("\n", " / "), s + EXIT, o) for s in WITHOUT for o in ("", ONE)]
+    yield "without a vtype", "rows of whole registers run while vill is set", [(s, s + EXIT, o) for s in WITHOUT for o in ("", ONE)]
     yield "writes", "the words of a service's pieces", [(n, s, "") for n, s in WRITES]
