@@ -1,6 +1,6 @@
 """The vector arithmetic rows: unit, handled words and results."""
 
-from flat import M64, divided, signed
+from flat import divided, signed
 
 # OPI rows by funct6: name, forms, unit
 OPI = {0: ("add", "vxi", "A"), 2: ("sub", "vx", "A"), 3: ("rsub", "xi", "A"), 4: ("minu", "vx", "A"), 5: ("min", "vx", "A"),

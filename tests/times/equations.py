@@ -1,7 +1,7 @@
 """The cycles of programs: the timing equations as they stand, over lists of all earlier instructions, batches and accesses, for a
 window of one instruction and batches of one element, and the rounds of a system of one process whose pages are all present."""
 
-from flat import CAUSES, STACK, Machine, canonical
+from flat import CAUSES, Machine, canonical
 
 SWITCH, TRAP, SERVICE, SLICE = 100, 20, 50, 10000
 LATENCY = {"A": 2, "M": 4, "D": 16, "P": 4}
@@ -16,8 +16,8 @@ class Access:
 
 
 class Batch:
-    def __init__(self, instruction, element):
-        self.instruction, self.element = instruction, element
+    def __init__(self, instruction):
+        self.instruction = instruction
         self.st = self.en = self.cm = None
         self.accesses = []
 
@@ -197,7 +197,7 @@ class Episode:
         return groups
 
     def batch(self, i, group):
-        batch = Batch(i, group[0][0])
+        batch = Batch(i)
         batch.accesses = [Access(k, address, size) for k, accesses in group for address, size in accesses]
         batch.st = self.start(i, batch)
         return batch

@@ -29,7 +29,6 @@ class Step:
         self.unit = self.words = self.elements = self.want = None
         self.apply = lambda: None
         self.element = lambda k: None
-        self.writes_x = None
 
 
 class Machine:
