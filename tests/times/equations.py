@@ -52,7 +52,7 @@ class Episode:
         self.leaf_writes = []
         self.E = self.why = self.at = None
 
-    # Q1, Q2
+    # fetch and issue
 
     def fetch(self):
         """f of the next instruction, and whether its page may be executed"""
@@ -86,7 +86,7 @@ class Episode:
                 return (kept, dirty) if kept == page else None
         return None
 
-    # Q4, Q5
+    # beats and the words that they make
 
     def beat(self, i):
         """the beats of a vector arithmetic instruction, and its last ready cycle"""
@@ -103,7 +103,7 @@ class Episode:
             i.beats.append(max(terms))
         return i.beats[-1] + LATENCY[unit] if i.beats else i.t + 1
 
-    # Q6 to Q9
+    # batches, look-ups and walks, queue and serves
 
     def start(self, i, batch):
         """st of the batch; source words are ready before i is issued, since all earlier instructions are complete"""
@@ -175,7 +175,7 @@ class Episode:
             a.done, a.batch = a.serve + self.K, batch
             self.accesses.append(a)
 
-    # Q10, Q11
+    # commits and stops
 
     def stop(self, why, E, at=None):
         self.why, self.E, self.at = why, E, at
@@ -187,7 +187,7 @@ class Episode:
         return self.why is not None
 
     def groups(self, elements):
-        """the elements of each batch: one, or from R12 on the longest run with at most as many accesses as lanes"""
+        """the elements of each batch: one, or, where batches are long, the longest run with at most as many accesses as lanes"""
         groups = []
         for k, accesses in elements:
             if groups and self.long and sum(len(own) for _, own in groups[-1]) + len(accesses) <= self.L:
