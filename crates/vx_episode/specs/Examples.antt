@@ -62,7 +62,6 @@ process v a0 a1 a2 memory words = record {
     pc = 0x10000;
     x = replicate 10 0 ++ (a0 ∷ a1 ∷ a2 ∷ replicate 19 0);
     v = v;
-    vectors_enabled = true;
     memory = program words ∷ memory;
     output = [];
   };

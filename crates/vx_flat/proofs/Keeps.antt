@@ -141,7 +141,7 @@ module _ (v : VectorState) (is : IsVectorState v) where
 
 -- ---- accesses
 
-done-length : (L : CountLaws) (d : Direction) (l : List Access) (s : Flat) → length (accesses_done d l s).v.words ≡ length s.v.words
+pub done-length : (L : CountLaws) (d : Direction) (l : List Access) (s : Flat) → length (accesses_done d l s).v.words ≡ length s.v.words
 done-length L d [] s = refl
 done-length L Loading (a ∷ l) s = done-length L Loading l (access_done Loading a s) ∙ L.set s.v.vlen s.v.words a.register (8 * a.width) (a.byte / a.width) (number_at s.memory a.address a.width)
 done-length L Storing (a ∷ l) s = done-length L Storing l (access_done Storing a s)

@@ -3,7 +3,6 @@ pub mod Between
 pub mod Classes
 pub mod Continues
 pub mod Done
-pub mod Enabled
 pub mod Grows
 pub mod Keeps
 pub mod Kept

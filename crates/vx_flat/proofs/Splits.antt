@@ -2,7 +2,7 @@
 use Rattle.std.proofs.Common.{◌≡◌, ℕ, ◌+◌, ◌*◌, ◌/◌, ◌%◌, ◌<◌, ◌≤◌, Bool, true, false, not, ◌&&◌, nat_eq, leb, ltb, List, ◌++◌, length, if◌then◌else◌, refl, sym, ap, ◌∙◌, subst, inl, inr, arith}
 use Rattle.std.specs.List.{All, filter}
 use Rattle.std.specs.Prelude.{Option, Some, None, is_none}
-use Rattle.std.proofs.lemmas.Bool.{false≢true, and_parts, leb-true}
+use Rattle.std.proofs.lemmas.Bool.{false≢true, and_parts, leb-true, le-leb}
 use Rattle.std.proofs.lemmas.List.Elements.{filter-append}
 use Rattle.std.proofs.lemmas.Option.{none-some, same_Some}
 use Rattle.vx_image.specs.Pages.{Memory}
@@ -43,6 +43,33 @@ pub record Laws : Type 0 where
   pub sizes : SizeLaws
   pub sound : (m : Movement) → IsLegalMovement m → length m.words ≡ words_of_all m.at.vlen → IsSoundMovement m
   pub valid : (word : ℕ) (i : Instr) → decoded word ≡ Some i → IsValid i
+
+-- ---- the states within a transfer
+
+pub record IsPrefix (t : Transfer) (k : ℕ) (s u : Flat) : Type 0 where
+  pub start : s.v.vstart ≤ k
+  pub good : first_failure t.direction s.memory (accesses_between t.movement 0 k) ≡ None
+  pub is : below_done t k s ≡ u
+
+some-if : (b : Bool) (x u : Flat) → (if b then Some x else None) ≡ Some u → (b ≡ true) × (x ≡ u)
+some-if true x u h = (refl, same_Some x u h)
+some-if false x u h = absurd (none-some u h)
+
+pub prefix-parts : (t : Transfer) (k : ℕ) (s u : Flat) → prefix_of t k s ≡ Some u → IsPrefix t k s u
+prefix-parts t k s u h =
+    let test = is_none (first_failure t.direction s.memory (accesses_between t.movement 0 k)) in
+    let one = some-if (leb s.v.vstart k && test) (below_done t k s) u h in
+    let both = and_parts (leb s.v.vstart k) test one.0 in
+    record {
+      start = leb-true s.v.vstart k both.0;
+      good = is-none (first_failure t.direction s.memory (accesses_between t.movement 0 k)) both.1;
+      is = one.1;
+    }
+
+pub prefix-from : (t : Transfer) (k : ℕ) (s : Flat) → s.v.vstart ≤ k → first_failure t.direction s.memory (accesses_between t.movement 0 k) ≡ None → prefix_of t k s ≡ Some (below_done t k s)
+prefix-from t k s start none =
+    ap (λ b. if b && is_none (first_failure t.direction s.memory (accesses_between t.movement 0 k)) then Some (below_done t k s) else None) (le-leb s.v.vstart k start)
+    ∙ ap (λ f. if is_none f then Some (below_done t k s) else None) none
 
 -- ---- the transfer, gone on with at element k
 
@@ -110,6 +137,25 @@ module _ (d : Direction) (a : Addressing) (e : Eew) (s : Flat) (i : Instr) (k : 
         ∙ by-failure (first_failure d s.memory rest) refl
         ∙ sym (ap (transferred_by t s) failure-here)
 
+    -- ---- in two goes
+
+    failure-between : (n : ℕ) → k ≤ n → first_failure d memory (accesses_between onward.movement 0 n) ≡ None → first_failure d s.memory (accesses_between m 0 n) ≡ None
+    failure-between n low none =
+        ap (first_failure d s.memory) (in-parts m 0 k n (omega arith) low)
+        ∙ failures-behind d s.memory first (accesses_between m k n) good
+        ∙ sym (failures-alike d s.memory memory (done-permits d first s) (accesses_between m k n))
+        ∙ sym (ap (first_failure d memory) (goes-on m k words start read n))
+        ∙ none
+
+    done-between : (n : ℕ) → k ≤ n → below_done onward n there ≡ below_done t n s
+    done-between n low =
+        states-alike n (accesses_between onward.movement 0 n) (accesses_between m 0 n) (accesses_between m k n) (goes-on m k words start read n) (in-parts m 0 k n (omega arith) low)
+
+    pub prefixes-join : (n : ℕ) (v : Flat) → prefix_of onward n there ≡ Some v → prefix_of t n s ≡ Some v
+    prefixes-join n v h =
+        let is = prefix-parts onward n there v h in
+        prefix-from t n s (omega (arith, start, is.start)) (failure-between n is.start is.good) ∙ ap Some (sym (done-between n is.start) ∙ is.is)
+
     -- ---- past a failure
 
     passing-alike : (l : List Access) → filter (λ (x : Access). is_none (failure_of d memory x)) l ≡ filter (λ (x : Access). is_none (failure_of d s.memory x)) l
@@ -174,26 +220,6 @@ index-apart a e s i k v sound kept h x low inside = absurd (false≢true h)
 
 -- ---- a load, and a store
 
-pub record IsPrefix (t : Transfer) (k : ℕ) (s u : Flat) : Type 0 where
-  pub start : s.v.vstart ≤ k
-  pub good : first_failure t.direction s.memory (accesses_between t.movement 0 k) ≡ None
-  pub is : below_done t k s ≡ u
-
-some-if : (b : Bool) (x u : Flat) → (if b then Some x else None) ≡ Some u → (b ≡ true) × (x ≡ u)
-some-if true x u h = (refl, same_Some x u h)
-some-if false x u h = absurd (none-some u h)
-
-pub prefix-parts : (t : Transfer) (k : ℕ) (s u : Flat) → prefix_of t k s ≡ Some u → IsPrefix t k s u
-prefix-parts t k s u h =
-    let test = is_none (first_failure t.direction s.memory (accesses_between t.movement 0 k)) in
-    let one = some-if (leb s.v.vstart k && test) (below_done t k s) u h in
-    let both = and_parts (leb s.v.vstart k) test one.0 in
-    record {
-      start = leb-true s.v.vstart k both.0;
-      good = is-none (first_failure t.direction s.memory (accesses_between t.movement 0 k)) both.1;
-      is = one.1;
-    }
-
 -- an instruction of a class that is legal as a state has it
 pub record IsRow (c : Class) (s : Flat) (i : Instr) : Type 0 where
   pub valid : IsValid i
@@ -211,6 +237,11 @@ module _ (a : Addressing) (e : Eew) (s : Flat) (i : Instr) (k : ℕ) (u : Flat) 
         mask = λ h x low inside. ap (λ w. element s.v.vlen w 0 1 x) (stores-words below s);
         index = λ h x low inside. ap (λ w. element s.v.vlen w i.rs2 (bits_of_eew e) x) (stores-words below s);
       }
+
+  pub store-joins : prefix_of (transfer Storing a e s i) k s ≡ Some u → (n : ℕ) (v : Flat) → prefix_of (transfer Storing a e u i) n u ≡ Some v → prefix_of (transfer Storing a e s i) n s ≡ Some v
+  store-joins h n v p =
+      let is = prefix-parts (transfer Storing a e s i) k s u h in
+      prefixes-join Storing a e s i k is.start store-read is.good n v (sym (ap (λ x. prefix_of (transfer Storing a e x i) n x) (from-there Storing h)) ∙ p)
 
   pub store-past : prefix_of (transfer Storing a e s i) k s ≡ Some u → good_done (transfer Storing a e u i) u ≡ good_done (transfer Storing a e s i) s
   store-past h =
@@ -243,6 +274,11 @@ module _ (L : Laws) (a : Addressing) (e : Eew) (s : Flat) (i : Instr) (k : ℕ) 
   load-splits r h =
       let is = prefix-parts (transfer Loading a e s i) k s u h in
       ap (λ x. transferred (transfer Loading a e x i) x) (from-there a e s i k u Loading h) ∙ transfers-alike Loading a e s i k is.start (load-read r) is.good
+
+  pub load-joins : IsRow (VectorLoad a e) s i → prefix_of (transfer Loading a e s i) k s ≡ Some u → (n : ℕ) (v : Flat) → prefix_of (transfer Loading a e u i) n u ≡ Some v → prefix_of (transfer Loading a e s i) n s ≡ Some v
+  load-joins r h n v p =
+      let is = prefix-parts (transfer Loading a e s i) k s u h in
+      prefixes-join Loading a e s i k is.start (load-read r) is.good n v (sym (ap (λ x. prefix_of (transfer Loading a e x i) n x) (from-there a e s i k u Loading h)) ∙ p)
 
   pub load-past : IsRow (VectorLoad a e) s i → prefix_of (transfer Loading a e s i) k s ≡ Some u → good_done (transfer Loading a e u i) u ≡ good_done (transfer Loading a e s i) s
   load-past r h =

@@ -2,7 +2,7 @@
 use Rattle.std.proofs.Common.{◌≡◌, ℕ, ◌+◌, ◌/◌, ◌%◌, ◌^◌, ◌<◌, ◌≤◌, Bool, true, false, not, ◌&&◌, nat_eq, List, if◌then◌else◌, refl, sym, ap, ◌∙◌, subst, arith, ltb}
 use Rattle.std.specs.List.{All}
 use Rattle.std.specs.Prelude.{Option, Some, None, option_and_then}
-use Rattle.std.proofs.lemmas.Bool.{false≢true, and_parts, not-true}
+use Rattle.std.proofs.lemmas.Bool.{false≢true, eqb-true, eqb-false, ne_eqb, not-true}
 use Rattle.std.proofs.lemmas.Nat.{mod_below}
 use Rattle.std.proofs.lemmas.Option.{none-some, same_Some}
 use Rattle.vx_base.specs.declared.machine.Want.TheVariants.{Fetch, Store}
@@ -24,19 +24,21 @@ use Rattle.vx_flat.specs.Outcome.{Outcome, faulted}
 use Rattle.vx_flat.specs.Outcome.Outcome.{Next, Exited, Faulted}
 use Rattle.vx_flat.specs.Prefix.{transfer_as, transfer_next, prefix_of, prefix_at}
 use Rattle.vx_flat.specs.Splits.{IsWellFormed}
-use Rattle.vx_flat.specs.State.{Flat, completed}
-use Rattle.vx_flat.specs.Step.{upcoming, meaning, is_legal, is_legal_as, is_executed, word_at_pc, performed, performed_as, step}
-use Rattle.vx_flat.specs.Transfers.{Transfer, Failure, transfer, transferred_by, failure_of, first_failure, below_done, trimmed, is_fault_only_first}
+use Rattle.vx_flat.specs.State.{Flat, at_element, completed}
+use Rattle.vx_flat.specs.Step.{upcoming, meaning, is_legal, is_legal_as, word_at_pc, performed, performed_as, step}
+use Rattle.vx_flat.specs.Transfers.{Direction, Transfer, Failure, transfer, transferred_by, accesses_done, failure_of, first_failure, below_done, trimmed, is_fault_only_first}
 use Rattle.vx_flat.specs.Transfers.Direction.{Loading, Storing}
 use Rattle.vx_flat.specs.Vectors.{setting_at}
 use Rattle.vx_flat.specs.declared.upcoming.Upcoming.{Upcoming}
 use Rattle.vx_flat.specs.declared.upcoming.Upcoming.TheVariants.{Denied, Illegal, Instruction}
 use Rattle.vx_flat.proofs.Apart.{by_width}
 use Rattle.vx_flat.proofs.Between.{between_all}
-use Rattle.vx_flat.proofs.Done.{loads-memory, done-permits, IsElsewhere, stores-leave, none-fails, passes}
+use Rattle.vx_flat.proofs.Done.{with_parts, done-parts, loads-memory, done-permits, IsElsewhere, stores-leave, none-fails, passes}
+use Rattle.vx_flat.proofs.Keeps.{done-length}
+use Rattle.vx_flat.proofs.Kept.{CountLaws}
 use Rattle.vx_flat.proofs.Puts.{other-page, permitted-below, word-stays}
 use Rattle.vx_flat.proofs.Rules.{load-legal-alike, store-legal-alike}
-use Rattle.vx_flat.proofs.Splits.{Laws, IsRow, prefix-parts, there, from-there, store-sound, load-splits, store-splits, load-past, store-past}
+use Rattle.vx_flat.proofs.Splits.{Laws, IsRow, prefix-parts, there, from-there, store-sound, load-splits, store-splits, load-past, store-past, load-joins, store-joins}
 
 -- ---- what comes next
 
@@ -141,18 +143,18 @@ module _ (L : Laws) (a : Addressing) (e : Eew) (s : Flat) (i : Instr) (k : ℕ) 
   next : IsNext s i
   next = next-parts s i h
 
-  illegal : (c : Class) → class_of i.op ≡ c → (is_executed s.vectors_enabled c && not (is_illegal i (setting_at s i))) ≡ true → IsRow c s i
+  illegal : (c : Class) → class_of i.op ≡ c → not (is_illegal i (setting_at s i)) ≡ true → IsRow c s i
   illegal c q legal = record {
     valid = L.valid (word_at_pc s) i next.word;
     row = q;
-    legal = not-true (is_illegal i (setting_at s i)) (and_parts (is_executed s.vectors_enabled c) (not (is_illegal i (setting_at s i))) legal).1;
+    legal = not-true (is_illegal i (setting_at s i)) legal;
   }
 
   load-row : class_of i.op ≡ VectorLoad a e → IsRow (VectorLoad a e) s i
-  load-row q = illegal (VectorLoad a e) q (ap (λ c. is_executed s.vectors_enabled c && is_legal_as c s i) (sym q) ∙ next.legal)
+  load-row q = illegal (VectorLoad a e) q (ap (λ c. is_legal_as c s i) (sym q) ∙ next.legal)
 
   store-row : class_of i.op ≡ VectorStore a e → IsRow (VectorStore a e) s i
-  store-row q = illegal (VectorStore a e) q (ap (λ c. is_executed s.vectors_enabled c && is_legal_as c s i) (sym q) ∙ next.legal)
+  store-row q = illegal (VectorStore a e) q (ap (λ c. is_legal_as c s i) (sym q) ∙ next.legal)
 
   load-next : class_of i.op ≡ VectorLoad a e → upcoming (there Loading a e s i k) ≡ Instruction i
   load-next q =
@@ -160,9 +162,9 @@ module _ (L : Laws) (a : Addressing) (e : Eew) (s : Flat) (i : Instr) (k : ℕ) 
       let below = accesses_between (transfer Loading a e s i).movement 0 k in
       let word : word_at_pc after ≡ word_at_pc s = ap (λ m. number_at m s.pc 4) (loads-memory below s) in
       let legal : is_legal after i ≡ is_legal s i =
-      ap (λ c. is_executed s.vectors_enabled c && is_legal_as c after i) q
-      ∙ ap (λ b. is_executed s.vectors_enabled (VectorLoad a e) && not b) (load-legal-alike a e i (setting_at s i) k q)
-      ∙ sym (ap (λ c. is_executed s.vectors_enabled c && is_legal_as c s i) q) in
+      ap (λ c. is_legal_as c after i) q
+      ∙ ap not (load-legal-alike a e i (setting_at s i) k q)
+      ∙ sym (ap (λ c. is_legal_as c s i) q) in
       next-is after i (record {
         fetched = done-permits Loading below s s.pc Fetch ∙ next.fetched;
         word = ap decoded word ∙ next.word;
@@ -190,9 +192,9 @@ module _ (L : Laws) (a : Addressing) (e : Eew) (s : Flat) (i : Instr) (k : ℕ) 
       let apart = elsewhere (store-sound L a e s i k u w.vectors (store-row q)) good in
       let word : word_at_pc after ≡ word_at_pc s = word-stays s.memory after.memory s.pc w.aligned (permitted-below s.memory s.pc Fetch next.fetched) (stores-leave s.pc below s apart) in
       let legal : is_legal after i ≡ is_legal s i =
-      ap (λ c. is_executed s.vectors_enabled c && is_legal_as c after i) q
-      ∙ ap (λ b. is_executed s.vectors_enabled (VectorStore a e) && not b) (store-legal-alike a e i (setting_at s i) k q)
-      ∙ sym (ap (λ c. is_executed s.vectors_enabled c && is_legal_as c s i) q) in
+      ap (λ c. is_legal_as c after i) q
+      ∙ ap not (store-legal-alike a e i (setting_at s i) k q)
+      ∙ sym (ap (λ c. is_legal_as c s i) q) in
       next-is after i (record {
         fetched = done-permits Storing below s s.pc Fetch ∙ next.fetched;
         word = ap decoded word ∙ next.word;
@@ -253,3 +255,117 @@ pub step-splits : Laws → (s u : Flat) (k : ℕ) → IsWellFormed s → prefix_
 step-splits L s u k w h =
     here-or-on (nat_eq k s.v.vstart) s u (option_and_then (λ (t : Transfer). prefix_of t k s) (transfer_next s (upcoming s)))
     (step-next L s k u w (upcoming s) refl) h
+
+-- ---- reached in two goes
+
+-- what a state within an instruction, and one reached from there, say of the state before
+record IsOn (s u : Flat) (k n : ℕ) (t : Transfer) (v : Flat) : Type 0 where
+  reached : prefix_of t n s ≡ Some v
+  start : s.v.vstart ≤ k
+  at : u.v.vstart ≡ k
+  behind : k ≤ n
+
+on-of : (t onward : Transfer) (s u : Flat) (k n : ℕ) (v : Flat) → prefix_of t k s ≡ Some u → prefix_of onward n u ≡ Some v → prefix_of t n s ≡ Some v → IsOn s u k n t v
+on-of t onward s u k n v p h r =
+    let first = prefix-parts t k s u p in
+    let second = prefix-parts onward n u v h in
+    let at : u.v.vstart ≡ k = sym (ap (λ (x : Flat). x.v.vstart) first.is) in
+    record { reached = r; start = first.start; at = at; behind = omega (arith, second.start) }
+
+-- the state at an element that isn't the state's own
+prefix-next : (s v : Flat) (n : ℕ) (t : Transfer) → transfer_next s (upcoming s) ≡ Some t → nat_eq n s.v.vstart ≡ false → prefix_of t n s ≡ Some v → prefix_at n s ≡ Some v
+prefix-next s v n t next other h = (λ j. if other j then Some s else option_and_then (λ (t : Transfer). prefix_of t n s) (next j)) ∙ h
+
+beyond : (k n start at : ℕ) → start ≤ k → at ≡ k → k ≤ n → nat_eq n at ≡ false → nat_eq n start ≡ false
+beyond k n start at low same high other = ne_eqb n start (λ e. eqb-false n at other (omega arith))
+
+joins-by : (s u v : Flat) (k n : ℕ) (t : Transfer) → transfer_next s (upcoming s) ≡ Some t → IsOn s u k n t v → nat_eq n u.v.vstart ≡ false → prefix_at n s ≡ Some v
+joins-by s u v k n t next on other = prefix-next s v n t next (beyond k n s.v.vstart u.v.vstart on.start on.at on.behind other) on.reached
+
+join-of : (L : Laws) (s : Flat) (i : Instr) (k : ℕ) (u : Flat) → IsWellFormed s → upcoming s ≡ Instruction i → (c : Class) → class_of i.op ≡ c → option_and_then (λ (t : Transfer). prefix_of t k s) (transfer_as c s i) ≡ Some u → (n : ℕ) (v : Flat) → nat_eq n u.v.vstart ≡ false → option_and_then (λ (t : Transfer). prefix_of t n u) (transfer_next u (upcoming u)) ≡ Some v → prefix_at n s ≡ Some v
+join-of L s i k u w h (VectorLoad a e) q p n v other g =
+    let comes : upcoming u ≡ Instruction i = ap upcoming (from-there a e s i k u Loading p) ∙ load-next L a e s i k u w h q in
+    let on : prefix_of (transfer Loading a e u i) n u ≡ Some v = sym (ap (option_and_then (λ (t : Transfer). prefix_of t n u)) (ap (transfer_next u) comes ∙ ap (λ c. transfer_as c u i) q)) ∙ g in
+    let t = transfer Loading a e s i in
+    joins-by s u v k n t (ap (transfer_next s) h ∙ ap (λ c. transfer_as c s i) q)
+    (on-of t (transfer Loading a e u i) s u k n v p on (load-joins L a e s i k u w.vectors (load-row L a e s i k u w h q) p n v on)) other
+join-of L s i k u w h (VectorStore a e) q p n v other g =
+    let good = (prefix-parts (transfer Storing a e s i) k s u p).good in
+    let comes : upcoming u ≡ Instruction i = ap upcoming (from-there a e s i k u Storing p) ∙ store-next L a e s i k u w h q good in
+    let on : prefix_of (transfer Storing a e u i) n u ≡ Some v = sym (ap (option_and_then (λ (t : Transfer). prefix_of t n u)) (ap (transfer_next u) comes ∙ ap (λ c. transfer_as c u i) q)) ∙ g in
+    let t = transfer Storing a e s i in
+    joins-by s u v k n t (ap (transfer_next s) h ∙ ap (λ c. transfer_as c s i) q)
+    (on-of t (transfer Storing a e u i) s u k n v p on (store-joins a e s i k u p n v on)) other
+join-of L s i k u w h c q p n v other g = absurd (none-some u p)
+
+join-next : (L : Laws) (s : Flat) (k : ℕ) (u : Flat) → IsWellFormed s → (x : Upcoming) → upcoming s ≡ x → option_and_then (λ (t : Transfer). prefix_of t k s) (transfer_next s x) ≡ Some u → (n : ℕ) (v : Flat) → nat_eq n u.v.vstart ≡ false → option_and_then (λ (t : Transfer). prefix_of t n u) (transfer_next u (upcoming u)) ≡ Some v → prefix_at n s ≡ Some v
+join-next L s k u w Denied h p n v other g = absurd (none-some u p)
+join-next L s k u w (Illegal word) h p n v other g = absurd (none-some u p)
+join-next L s k u w (Instruction i) h p n v other g = join-of L s i k u w h (class_of i.op) refl p n v other g
+
+-- the vstart of a state within an instruction
+at-of : (t : Option Transfer) (s u : Flat) (k : ℕ) → option_and_then (λ (t : Transfer). prefix_of t k s) t ≡ Some u → u.v.vstart ≡ k
+at-of None s u k p = absurd (none-some u p)
+at-of (Some t) s u k p = sym (ap (λ (x : Flat). x.v.vstart) (prefix-parts t k s u p).is)
+
+second-go : (L : Laws) (s u v : Flat) (k n : ℕ) → IsWellFormed s → prefix_at k s ≡ Some u → option_and_then (λ (t : Transfer). prefix_of t k s) (transfer_next s (upcoming s)) ≡ Some u → (b : Bool) → nat_eq n u.v.vstart ≡ b → (if b then Some u else option_and_then (λ (t : Transfer). prefix_of t n u) (transfer_next u (upcoming u))) ≡ Some v → prefix_at n s ≡ Some v
+second-go L s u v k n w first p true here g =
+    ap (λ n. prefix_at n s) (eqb-true n u.v.vstart here ∙ at-of (transfer_next s (upcoming s)) s u k p) ∙ first ∙ g
+second-go L s u v k n w first p false other g = join-next L s k u w (upcoming s) refl p n v other g
+
+first-go : (L : Laws) (s u v : Flat) (k n : ℕ) → IsWellFormed s → prefix_at k s ≡ Some u → prefix_at n u ≡ Some v → (b : Bool) → nat_eq k s.v.vstart ≡ b → (if b then Some s else option_and_then (λ (t : Transfer). prefix_of t k s) (transfer_next s (upcoming s))) ≡ Some u → prefix_at n s ≡ Some v
+first-go L s u v k n w first second true here p = ap (prefix_at n) (same_Some s u p) ∙ second
+first-go L s u v k n w first second false other p = second-go L s u v k n w first p (nat_eq n u.v.vstart) refl second
+
+pub prefixes-join-up : Laws → (s u v : Flat) (k n : ℕ) → IsWellFormed s → prefix_at k s ≡ Some u → prefix_at n u ≡ Some v → prefix_at n s ≡ Some v
+prefixes-join-up L s u v k n w first second = first-go L s u v k n w first second (nat_eq k s.v.vstart) refl first
+
+-- ---- what it is
+
+-- what a state within an instruction keeps
+pub record IsWithin (s u : Flat) (k : ℕ) : Type 0 where
+  pub element : u.v.vstart ≡ k
+  pub pc : u.pc ≡ s.pc
+  pub output : u.output ≡ s.output
+  pub formed : IsWellFormed s → k < s.v.vlen → IsWellFormed u
+
+within-here : (s u : Flat) → s ≡ u → IsWithin s u s.v.vstart
+within-here s u same = record {
+  element = sym (ap (λ (x : Flat). x.v.vstart) same);
+  pc = sym (ap (λ (x : Flat). x.pc) same);
+  output = sym (ap (λ (x : Flat). x.output) same);
+  formed = λ w few. subst IsWellFormed same w;
+}
+
+done-within : (L : CountLaws) (d : Direction) (l : List Access) (k : ℕ) (s : Flat) → IsWithin s (at_element k (accesses_done d l s)) k
+done-within L d l k s =
+    let done = accesses_done d l s in
+    let is : at_element k done ≡ at_element k (with_parts s done.v.words done.memory) = ap (at_element k) (done-parts d l s) in
+    record {
+      element = refl;
+      pc = ap (λ (x : Flat). x.pc) is;
+      output = ap (λ (x : Flat). x.output) is;
+      formed = λ w few. subst IsWellFormed (sym is) (record {
+        vectors = record {
+          vlen_in_range = w.vectors.vlen_in_range;
+          words_in_all = done-length L d l s ∙ w.vectors.words_in_all;
+          vtype_in_range = w.vectors.vtype_in_range;
+          vl_in_range = w.vectors.vl_in_range;
+          vstart_in_range = few;
+          vxrm_in_range = w.vectors.vxrm_in_range;
+        };
+        aligned = w.aligned;
+        code = λ address fetch. done-permits d l s address Store ∙ w.code address (sym (done-permits d l s address Fetch) ∙ fetch);
+      });
+    }
+
+within-of : (L : CountLaws) (t : Option Transfer) (s u : Flat) (k : ℕ) → option_and_then (λ (t : Transfer). prefix_of t k s) t ≡ Some u → IsWithin s u k
+within-of L None s u k p = absurd (none-some u p)
+within-of L (Some t) s u k p = subst (λ (x : Flat). IsWithin s x k) (prefix-parts t k s u p).is (done-within L t.direction (accesses_between t.movement 0 k) k s)
+
+within-go : (L : CountLaws) (s u : Flat) (k : ℕ) (b : Bool) → nat_eq k s.v.vstart ≡ b → (if b then Some s else option_and_then (λ (t : Transfer). prefix_of t k s) (transfer_next s (upcoming s))) ≡ Some u → IsWithin s u k
+within-go L s u k true here p = subst (IsWithin s u) (sym (eqb-true k s.v.vstart here)) (within-here s u (same_Some s u p))
+within-go L s u k false other p = within-of L (transfer_next s (upcoming s)) s u k p
+
+pub within-is : CountLaws → (s u : Flat) (k : ℕ) → prefix_at k s ≡ Some u → IsWithin s u k
+within-is L s u k p = within-go L s u k (nat_eq k s.v.vstart) refl p

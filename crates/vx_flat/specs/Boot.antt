@@ -15,7 +15,6 @@ booted hart image = record {
   pc = image.entry;
   x = first_registers;
   v = first_state hart.vlen;
-  vectors_enabled = hart.vectors_enabled;
   memory = image.pages;
   output = [];
 }

@@ -34,7 +34,6 @@ state_at vl vstart address stride mask = record {
   pc = 0;
   x = replicate 10 0 ++ (address ∷ stride ∷ replicate 20 0);
   v = record { vlen = 128; words = words_with mask; vl = vl; vtype = 0x1a; vstart = vstart; vxsat = false; vxrm = 0 };
-  vectors_enabled = true;
   memory = one_page;
   output = [];
 }

@@ -1,6 +1,6 @@
 -- Accesses to memory by page: RISC-V Privileged 1.12, section 4.4 (Sv39: canonical addresses). Addresses are numbers below
 -- 2 ^ 64, and an access that passes the last wraps.
-use Rattle.std.specs.Prelude.{ℕ, zero, suc, ◌+◌, ◌-◌, ◌/◌, ◌%◌, ◌^◌, Bool, true, false, ◌==◌, ◌&&◌, ◌||◌, List, [], ◌∷◌, map, if◌then◌else◌, slice_index, slice_set}
+use Rattle.std.specs.Prelude.{ℕ, zero, suc, ◌+◌, ◌%◌, ◌^◌, Bool, true, ◌==◌, ◌&&◌, List, [], ◌∷◌, map, if◌then◌else◌, slice_index, slice_set}
 use Rattle.std.specs.Option.{option_map_or}
 use Rattle.vx_base.specs.Numbers.{little_endian, from_little_endian}
 use Rattle.vx_base.specs.declared.machine.Want.{Want}

@@ -1,6 +1,6 @@
 -- The state of the flat machine: RISC-V Unprivileged ISA 20191213, section 2.1 (registers and pc), and RISC-V "V" 1.0, section
 -- 3 (the vector state). What a process has written is this project's own.
-use Rattle.std.specs.Prelude.{ℕ, Bool, ◌==◌, List, if◌then◌else◌, slice_index, slice_set}
+use Rattle.std.specs.Prelude.{ℕ, ◌==◌, List, if◌then◌else◌, slice_index, slice_set}
 use Rattle.vx_image.specs.Pages.{Memory}
 use Rattle.vx_vstate.specs.State.{VectorState}
 use Rattle.vx_flat.specs.Scalar.{next_pc}
@@ -10,8 +10,6 @@ pub record Flat : Type 0 where
   -- x0 to x31, of which x0 is 0
   pub x : List ℕ
   pub v : VectorState
-  -- the field VS of mstatus isn't Off
-  pub vectors_enabled : Bool
   pub memory : Memory
   -- what was written so far
   pub output : List ℕ

@@ -1,6 +1,6 @@
 -- The step of the flat machine: RISC-V Unprivileged ISA 20191213, chapters 2, 5, 7 and 9, and RISC-V "V" 1.0; causes and trap
 -- values of RISC-V Privileged 1.12, sections 4.1.8 and 4.1.9. The causes stand in the order in which they are tested.
-use Rattle.std.specs.Prelude.{ℕ, Bool, true, false, not, ◌==◌, ◌&&◌, Option, Some, None, is_some, if◌then◌else◌}
+use Rattle.std.specs.Prelude.{ℕ, Bool, true, not, ◌==◌, Option, Some, None, is_some, if◌then◌else◌}
 use Rattle.vx_base.specs.Numbers.{signed}
 use Rattle.vx_base.specs.declared.machine.Want.TheVariants.{Fetch, Load, Store}
 use Rattle.vx_decode.specs.Decoded.{decoded}
@@ -38,25 +38,6 @@ use Rattle.vx_flat.specs.declared.upcoming.Upcoming.TheVariants.{Denied, Illegal
 abbrev pub exchange_at : Flat → Instr → Option Exchange
 exchange_at s i = exchange s.v (control_number i) (change_in i.op) i.rs1 (operand_of i s.x)
 
--- a class of instructions that a hart executes: all of RV64IM, and those of vectors and of their control registers where vector
--- instructions are enabled
-abbrev pub is_executed : (enabled : Bool) → Class → Bool
-is_executed enabled class.Arithmetic = true
-is_executed enabled class.Multiply = true
-is_executed enabled class.Divide = true
-is_executed enabled class.Jump = true
-is_executed enabled class.Branch = true
-is_executed enabled class.Load = true
-is_executed enabled class.Store = true
-is_executed enabled class.Fence = true
-is_executed enabled class.Ecall = true
-is_executed enabled class.Ebreak = true
-is_executed enabled class.Csr = enabled
-is_executed enabled class.Set = enabled
-is_executed enabled (class.VectorArithmetic family) = enabled
-is_executed enabled (class.VectorLoad addressing width) = enabled
-is_executed enabled (class.VectorStore addressing width) = enabled
-
 -- an instruction of a class is legal in a state
 abbrev pub is_legal_as : Class → Flat → Instr → Bool
 is_legal_as class.Arithmetic s i = true
@@ -76,7 +57,7 @@ is_legal_as (class.VectorLoad addressing width) s i = not (is_illegal i (setting
 is_legal_as (class.VectorStore addressing width) s i = not (is_illegal i (setting_at s i))
 
 abbrev pub is_legal : Flat → Instr → Bool
-is_legal s i = is_executed s.vectors_enabled (class_of i.op) && is_legal_as (class_of i.op) s i
+is_legal s i = is_legal_as (class_of i.op) s i
 
 -- what a word means in a state, as what comes next
 abbrev pub meaning : Flat → (word : ℕ) → Option Instr → Upcoming

@@ -1,4 +1,4 @@
-ghost use Rattle.std.specs.Prelude.{◌≤◌, ◌≡◌, ℕ, false, Some};
+ghost use Rattle.std.specs.Prelude.{◌≤◌, ◌<◌, ◌≡◌, ℕ, false, Some};
 ghost use Rattle.vx_decode.specs.Encoded.{IsValid};
 ghost use Rattle.vx_decode.specs.Legal.{is_illegal};
 ghost use Rattle.vx_decode.specs.declared.instr.Instr.{Instr};
@@ -15,7 +15,6 @@ ghost use Rattle.vx_flat.specs.Continued.{continued, continued_by};
 ghost use Rattle.vx_flat.specs.Examples.{ExamplesHold};
 ghost use Rattle.vx_flat.specs.Outcome.Outcome.{Next};
 ghost use Rattle.vx_flat.specs.Prefix.{flat_within, prefix_at, prefix_of};
-ghost use Rattle.vx_flat.specs.Process.{Process, stepped};
 ghost use Rattle.vx_flat.specs.Scalar.{work};
 ghost use Rattle.vx_flat.specs.Splits.{IsRunnable, IsWellFormed};
 ghost use Rattle.vx_flat.specs.State.{Flat};
@@ -75,14 +74,27 @@ pub fn steps_may_be_split()
     runs_are_well_formed();
 }
 
+/// A state within an instruction that is reached in two goes is reached in one; it stands at its element, and is well-formed.
+pub fn prefixes_join()
+    ensures joined { (s t u : Flat) (j k : ℕ) → IsWellFormed s → prefix_at j s ≡ Some t → prefix_at k t ≡ Some u → prefix_at k s ≡ Some u }
+    ensures run { (hart : Hart) (image : Image) (n j k : ℕ) (t u : Flat) → IsRunnable hart image → flat_within hart image n j ≡ Some t → prefix_at k t ≡ Some u → flat_within hart image n k ≡ Some u }
+    ensures element { (s t : Flat) (k : ℕ) → prefix_at k s ≡ Some t → t.v.vstart ≡ k }
+    ensures pc { (s t : Flat) (k : ℕ) → prefix_at k s ≡ Some t → t.pc ≡ s.pc }
+    ensures output { (s t : Flat) (k : ℕ) → prefix_at k s ≡ Some t → t.output ≡ s.output }
+    ensures formed { (s t : Flat) (k : ℕ) → IsWellFormed s → k < s.v.vlen → prefix_at k s ≡ Some t → IsWellFormed t }
+{
+    decoded_is_valid();
+    groups_have_sizes();
+    legal_movements_are_sound();
+    other_elements_stay();
+    other_words_stay();
+    set_element_leaves_words();
+    runs_are_well_formed();
+}
+
 /// The definitions give what is worked out for some small states.
 pub fn examples_hold()
     ensures { ExamplesHold }
-{}
-
-/// A step leaves it as it is whether vector instructions are enabled.
-pub fn enabled_vectors_stay()
-    ensures { (p : Process) → (stepped p).state.vectors_enabled ≡ p.state.vectors_enabled }
 {}
 
 /// Each operation does what its class says.

@@ -18,7 +18,7 @@ pub use effect::Effect;
 pub use end::End;
 pub use hart::Hart;
 pub use laws::{
-    continued_is_the_step, continued_run_is_the_run, enabled_vectors_stay, examples_hold,
-    operations_do_as_their_class, output_only_grows, runs_are_well_formed, steps_may_be_split,
+    continued_is_the_step, continued_run_is_the_run, examples_hold, operations_do_as_their_class,
+    output_only_grows, prefixes_join, runs_are_well_formed, steps_may_be_split,
 };
 pub use upcoming::Upcoming;
