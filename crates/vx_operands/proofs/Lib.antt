@@ -9,3 +9,4 @@ pub mod Packings
 pub mod Halves
 pub mod Compared
 pub mod Filled
+pub mod Signs
