@@ -3,6 +3,8 @@ ghost use Rattle.std.specs.Prelude.{IsTrue, true, false, ◌≡◌, ℕ, ◌*◌
 ghost use Rattle.vx_bits.specs.Width.{is_width};
 ghost use Rattle.vx_elem.specs.Kinds.{is_elem, is_plain};
 ghost use Rattle.vx_operands.specs.Forms.{form_of, reading};
+ghost use Rattle.vx_operands.specs.Lanes.{answer, numbers_of};
+ghost use Rattle.vx_packed.specs.Made.{even_packing, made};
 ghost use Rattle.vx_vector.specs.Arithmetic.{words_after};
 ghost use Rattle.vx_vector.specs.Laws.{IsSound, word_saturates};
 ghost use Rattle.vx_vector.specs.Reading.{sew_of};
@@ -12,16 +14,32 @@ ghost use Rattle.vx_vstate.specs.Registers.{word_at};
 use crate::form::form_of;
 use crate::kinds::is_plain;
 use crate::lanes::lanes;
+use crate::named::{
+    Add, And, Any, ExclusiveOr, Maximum, Minimum, Multiply, MultiplyAccumulate, MultiplyAdd,
+    MultiplyDecrease, MultiplySubtract, Named, Or, ReverseSubtract, ShiftLeft, ShiftRight,
+    ShiftRightSigned, Subtract, UnsignedMaximum, UnsignedMinimum,
+};
 use vx_operands::{Form, full_count, full_words as words_of_lanes};
+use vx_packed::{Made, Sources};
 use vx_rows::{Family, Op};
 use vx_vector::Places;
 use vx_vstate::Setting;
 
-/// The first words of the destination of a row of a family whose operands all have elements of SEW, where all elements of them
-/// are active. The family is named, so that the loop goes through no dispatch where it is known.
+/// The new elements of a family that is named.
 #[inline(always)]
-fn words_of(
-    family: Family,
+fn named_lanes<N: Named>(named: &N, sew: u32, from: Sources) -> Made
+    requires kind { IsTrue (is_plain (N.family named.now)) }
+    requires width { IsTrue (is_width sew) }
+    ensures { result ≡ made (even_packing sew) from (λ l. answer (N.family named.now) (numbers_of sew 0 l)) }
+{
+    lanes(named.family(), sew, from)
+}
+
+/// The first words of the destination of a row of a family whose operands all have elements of SEW, where all elements of them
+/// are active. There is a loop for each width, and the family and the width stand in it as literals, so that it goes through no
+/// dispatch.
+fn words_of<N: Named>(
+    named: &N,
     form: Form,
     words: &[u64],
     at: &Setting,
@@ -30,8 +48,9 @@ fn words_of(
     count: u32,
     made: &mut [u64],
 )
-    requires family { family ≡ form.family }
-    requires kind { IsTrue (is_plain family) }
+    requires family { N.family named.now ≡ form.family }
+    requires named { IsTrue (is_plain (N.family named.now)) }
+    requires kind { IsTrue (is_plain form.family) }
     requires sound { IsSound (reading form (view_of at.now) regs.now words.now) }
     requires sew { sew ≡ sew_of (reading form (view_of at.now) regs.now words.now) }
     requires width { IsTrue (is_width sew) }
@@ -43,20 +62,51 @@ fn words_of(
     ensures room { length made.new ≡ length made.old }
     ensures made { (k : ℕ) → k < count → slice_index made.new k ≡ word_at at.now.vlen (words_after (reading form (view_of at.now) regs.now words.now)) regs.now.vd k }
 {
-    words_of_lanes(
-        form,
-        words,
-        at,
-        regs,
-        sew,
-        count,
-        made,
-        |from| lanes(family, sew, from),
-    );
+    match sew {
+        8 => words_of_lanes(
+            form,
+            words,
+            at,
+            regs,
+            8,
+            count,
+            made,
+            |from| named_lanes(named, 8, from),
+        ),
+        16 => words_of_lanes(
+            form,
+            words,
+            at,
+            regs,
+            16,
+            count,
+            made,
+            |from| named_lanes(named, 16, from),
+        ),
+        32 => words_of_lanes(
+            form,
+            words,
+            at,
+            regs,
+            32,
+            count,
+            made,
+            |from| named_lanes(named, 32, from),
+        ),
+        _ => words_of_lanes(
+            form,
+            words,
+            at,
+            regs,
+            64,
+            count,
+            made,
+            |from| named_lanes(named, 64, from),
+        ),
+    }
 }
 
-/// The same, with a loop of its own for each family that programs use most.
-#[inline(always)]
+/// The same, with loops of its own for each family that programs use most.
 fn words_at(
     form: Form,
     words: &[u64],
@@ -79,25 +129,25 @@ fn words_at(
     ensures made { (k : ℕ) → k < count → slice_index made.new k ≡ word_at at.now.vlen (words_after (reading form (view_of at.now) regs.now words.now)) regs.now.vd k }
 {
     match form.family {
-        Family::Vadd => words_of(Family::Vadd, form, words, at, regs, sew, count, made),
-        Family::Vsub => words_of(Family::Vsub, form, words, at, regs, sew, count, made),
-        Family::Vrsub => words_of(Family::Vrsub, form, words, at, regs, sew, count, made),
-        Family::Vminu => words_of(Family::Vminu, form, words, at, regs, sew, count, made),
-        Family::Vmin => words_of(Family::Vmin, form, words, at, regs, sew, count, made),
-        Family::Vmaxu => words_of(Family::Vmaxu, form, words, at, regs, sew, count, made),
-        Family::Vmax => words_of(Family::Vmax, form, words, at, regs, sew, count, made),
-        Family::Vand => words_of(Family::Vand, form, words, at, regs, sew, count, made),
-        Family::Vor => words_of(Family::Vor, form, words, at, regs, sew, count, made),
-        Family::Vxor => words_of(Family::Vxor, form, words, at, regs, sew, count, made),
-        Family::Vsll => words_of(Family::Vsll, form, words, at, regs, sew, count, made),
-        Family::Vsrl => words_of(Family::Vsrl, form, words, at, regs, sew, count, made),
-        Family::Vsra => words_of(Family::Vsra, form, words, at, regs, sew, count, made),
-        Family::Vmul => words_of(Family::Vmul, form, words, at, regs, sew, count, made),
-        Family::Vmadd => words_of(Family::Vmadd, form, words, at, regs, sew, count, made),
-        Family::Vnmsub => words_of(Family::Vnmsub, form, words, at, regs, sew, count, made),
-        Family::Vmacc => words_of(Family::Vmacc, form, words, at, regs, sew, count, made),
-        Family::Vnmsac => words_of(Family::Vnmsac, form, words, at, regs, sew, count, made),
-        family => words_of(family, form, words, at, regs, sew, count, made),
+        Family::Vadd => words_of(&Add, form, words, at, regs, sew, count, made),
+        Family::Vsub => words_of(&Subtract, form, words, at, regs, sew, count, made),
+        Family::Vrsub => words_of(&ReverseSubtract, form, words, at, regs, sew, count, made),
+        Family::Vminu => words_of(&UnsignedMinimum, form, words, at, regs, sew, count, made),
+        Family::Vmin => words_of(&Minimum, form, words, at, regs, sew, count, made),
+        Family::Vmaxu => words_of(&UnsignedMaximum, form, words, at, regs, sew, count, made),
+        Family::Vmax => words_of(&Maximum, form, words, at, regs, sew, count, made),
+        Family::Vand => words_of(&And, form, words, at, regs, sew, count, made),
+        Family::Vor => words_of(&Or, form, words, at, regs, sew, count, made),
+        Family::Vxor => words_of(&ExclusiveOr, form, words, at, regs, sew, count, made),
+        Family::Vsll => words_of(&ShiftLeft, form, words, at, regs, sew, count, made),
+        Family::Vsrl => words_of(&ShiftRight, form, words, at, regs, sew, count, made),
+        Family::Vsra => words_of(&ShiftRightSigned, form, words, at, regs, sew, count, made),
+        Family::Vmul => words_of(&Multiply, form, words, at, regs, sew, count, made),
+        Family::Vmadd => words_of(&MultiplyAdd, form, words, at, regs, sew, count, made),
+        Family::Vnmsub => words_of(&MultiplySubtract, form, words, at, regs, sew, count, made),
+        Family::Vmacc => words_of(&MultiplyAccumulate, form, words, at, regs, sew, count, made),
+        Family::Vnmsac => words_of(&MultiplyDecrease, form, words, at, regs, sew, count, made),
+        family => words_of(&Any { family }, form, words, at, regs, sew, count, made),
     }
 }
 
@@ -125,12 +175,7 @@ fn words_of_form(
     }
     let sew = at.sew();
     let count = full_count(at, regs, 64 / sew, most);
-    match sew {
-        8 => words_at(form, words, at, regs, 8, count, made),
-        16 => words_at(form, words, at, regs, 16, count, made),
-        32 => words_at(form, words, at, regs, 32, count, made),
-        _ => words_at(form, words, at, regs, 64, count, made),
-    }
+    words_at(form, words, at, regs, sew, count, made);
     count
 }
 

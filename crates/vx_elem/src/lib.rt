@@ -9,6 +9,7 @@ mod form;
 mod full;
 mod kinds;
 mod lanes;
+mod named;
 mod numbers;
 mod words;
 

@@ -232,6 +232,7 @@ fn make_full(i: &Instr, at: &Setting, v: &VState, run: Run, made: &mut [u64]) ->
     match i.op {
         Op::Elem(_) => vx_elem::full_words(i.op, v.words(), at, &regs, run.count, made),
         Op::Mask(_) => vx_mask::full_words(i.op, v.words(), at, &regs, run.count, made),
+        Op::Perm(_) => vx_perm::full_words(i.op, v, v.words(), at, &regs, run.count, made),
         _ => 0,
     }
 }

@@ -8,6 +8,7 @@ ghost use Rattle.vx_operands.specs.Forms.{reading};
 ghost use Rattle.vx_operands.specs.Rising.{is_reduce, joined_below, reduced_by};
 ghost use Rattle.vx_packed.specs.Joined.{lane};
 ghost use Rattle.vx_rows.specs.Families.{operands_of};
+ghost use Rattle.vx_rows.specs.declared.family.Family.TheVariants.{Vredmax, Vredmin};
 ghost use Rattle.vx_rows.specs.declared.family.Operand.TheVariants.{Single};
 ghost use Rattle.vx_rows.specs.declared.row.First.TheVariants.{Vector};
 ghost use Rattle.vx_vector.specs.Laws.{IsSound, made_word, word_saturates};
@@ -252,6 +253,60 @@ fn at_sew<S: WordFile, F: Fn(Terms) -> u64>(
     reduced_word(form, file, at, regs, sew, sew, w, f)
 }
 
+/// Word `w` of the destination of a reduction to the least signed number. There is a closure for each width, in which it stands
+/// as a literal.
+#[inline(always)]
+fn least<S: WordFile>(form: Form, file: &S, at: &Setting, regs: &Places, sew: u32, w: u32) -> Word
+    requires family { form.family ≡ Vredmin }
+    requires same { S.vlen file.now ≡ at.now.vlen }
+    requires sound { IsSound (reading form (view_of at.now) regs.now (S.words file.now)) }
+    requires kind { IsTrue (is_even_reduction form.family) }
+    requires registers { form.first ≡ Vector }
+    requires sew { sew ≡ sew_of (reading form (view_of at.now) regs.now (S.words file.now)) }
+    requires width { IsTrue (is_width sew) }
+    requires small { at.now.vl ≤ 65536 }
+    requires within { w < length (destination_words (reading form (view_of at.now) regs.now (S.words file.now))) }
+    ensures value { result.value ≡ made_word (reading form (view_of at.now) regs.now (S.words file.now)) w }
+    ensures sat { result.sat ≡ word_saturates (reading form (view_of at.now) regs.now (S.words file.now)) w }
+{
+    match sew {
+        8 => at_sew(form, file, at, regs, 8, w, |t| lesser(8, t.sum, t.x)),
+        16 => at_sew(form, file, at, regs, 16, w, |t| lesser(16, t.sum, t.x)),
+        32 => at_sew(form, file, at, regs, 32, w, |t| lesser(32, t.sum, t.x)),
+        _ => at_sew(form, file, at, regs, 64, w, |t| lesser(64, t.sum, t.x)),
+    }
+}
+
+/// Word `w` of the destination of a reduction to the greatest signed number, likewise.
+#[inline(always)]
+fn greatest<S: WordFile>(
+    form: Form,
+    file: &S,
+    at: &Setting,
+    regs: &Places,
+    sew: u32,
+    w: u32,
+) -> Word
+    requires family { form.family ≡ Vredmax }
+    requires same { S.vlen file.now ≡ at.now.vlen }
+    requires sound { IsSound (reading form (view_of at.now) regs.now (S.words file.now)) }
+    requires kind { IsTrue (is_even_reduction form.family) }
+    requires registers { form.first ≡ Vector }
+    requires sew { sew ≡ sew_of (reading form (view_of at.now) regs.now (S.words file.now)) }
+    requires width { IsTrue (is_width sew) }
+    requires small { at.now.vl ≤ 65536 }
+    requires within { w < length (destination_words (reading form (view_of at.now) regs.now (S.words file.now))) }
+    ensures value { result.value ≡ made_word (reading form (view_of at.now) regs.now (S.words file.now)) w }
+    ensures sat { result.sat ≡ word_saturates (reading form (view_of at.now) regs.now (S.words file.now)) w }
+{
+    match sew {
+        8 => at_sew(form, file, at, regs, 8, w, |t| greater(8, t.sum, t.x)),
+        16 => at_sew(form, file, at, regs, 16, w, |t| greater(16, t.sum, t.x)),
+        32 => at_sew(form, file, at, regs, 32, w, |t| greater(32, t.sum, t.x)),
+        _ => at_sew(form, file, at, regs, 64, w, |t| greater(64, t.sum, t.x)),
+    }
+}
+
 /// Word `w` of the destination of a reduction at SEW.
 #[inline(always)]
 fn even_by_family<S: WordFile>(
@@ -279,9 +334,9 @@ fn even_by_family<S: WordFile>(
         Family::Vredor => at_sew(form, file, at, regs, sew, w, |t| t.sum | t.x),
         Family::Vredxor => at_sew(form, file, at, regs, sew, w, |t| t.sum ^ t.x),
         Family::Vredminu => at_sew(form, file, at, regs, sew, w, |t| t.sum.min(t.x)),
-        Family::Vredmin => at_sew(form, file, at, regs, sew, w, |t| lesser(sew, t.sum, t.x)),
+        Family::Vredmin => least(form, file, at, regs, sew, w),
         Family::Vredmaxu => at_sew(form, file, at, regs, sew, w, |t| t.sum.max(t.x)),
-        Family::Vredmax => at_sew(form, file, at, regs, sew, w, |t| greater(sew, t.sum, t.x)),
+        Family::Vredmax => greatest(form, file, at, regs, sew, w),
         _ => unreachable!(),
     }
 }

@@ -317,7 +317,7 @@ fn slid_by_family<S: WordFile>(
 
 /// The same. Each width stands as a literal, so that the loop over a word's lanes is one at a known width.
 #[inline(never)]
-fn slid_by_lanes<S: WordFile>(
+pub(crate) fn slid_by_lanes<S: WordFile>(
     form: Form,
     file: &S,
     at: &Setting,
@@ -362,7 +362,7 @@ fn whole_run(
     ensures active { (words : List ℕ) (from : ℕ) → result ≡ Some from → (is_unmasked (reading form (view_of at.now) regs.now words) && nat_le at.now.vstart first && nat_le (first + count) at.now.vl) ≡ true }
 {
     if are_active(form, at, regs, first, count) {
-        run_of(form, at, regs, most, first, count)
+        run_of(form.family, form, at, regs, most, first, count)
     } else {
         None
     }

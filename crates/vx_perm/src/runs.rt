@@ -1,5 +1,5 @@
 ghost use Rattle.vx_vstate.specs.Views.{view_of};
-ghost use Rattle.std.specs.Prelude.{IsTrue, ◌≡◌, ℕ, ◌+◌, ◌-◌, ◌*◌, ◌/◌, ◌%◌, ◌^◌, ◌<◌, ◌≤◌, ◌&&◌, nat_le, if◌then◌else◌, List, Option, Some, None};
+ghost use Rattle.std.specs.Prelude.{IsTrue, ◌≡◌, ℕ, ◌+◌, ◌-◌, ◌*◌, ◌/◌, ◌%◌, ◌^◌, ◌<◌, ◌≤◌, ◌&&◌, nat_le, if◌then◌else◌, length, List, Option, Some, None};
 ghost use Rattle.vx_bits.specs.Width.{is_width};
 ghost use Rattle.vx_operands.specs.Forms.{is_unmasked, reading};
 ghost use Rattle.vx_packed.specs.Joined.{joined};
@@ -8,7 +8,7 @@ ghost use Rattle.vx_vstate.specs.Registers.{element, element_word, place_of, wor
 ghost use Rattle.vx_vstate.specs.Vtype.{vlmax};
 
 use crate::elements::number;
-use vx_operands::{Form, group_word, is_unmasked};
+use vx_operands::{Form, group_word, is_unmasked, word_in};
 use vx_packed::joined_by_elements;
 use vx_rows::Family;
 use vx_vector::Places;
@@ -49,8 +49,10 @@ fn behind(first: u32, offset: u64, last: u32) -> Option<u32>
 }
 
 /// From which element of vs2 on so many elements of a slide from element `first` on are taken, where all are taken from there.
+/// The family is named, so that a loop over words goes through no dispatch.
 #[inline(always)]
 pub(crate) fn run_of(
+    family: Family,
     form: Form,
     at: &Setting,
     regs: &Places,
@@ -58,14 +60,15 @@ pub(crate) fn run_of(
     first: u32,
     count: u32,
 ) -> Option<u32>
-    requires slides { IsTrue (is_slide form.family) }
+    requires family { form.family ≡ family }
+    requires slides { IsTrue (is_slide family) }
     requires most { most ≡ vlmax at.now.vlen at.now.vtype }
     requires below { first + count ≤ at.now.vl }
     requires few_elements { at.now.vl ≤ most }
     ensures { (words : List ℕ) (from : ℕ) → result ≡ Some from → IsRun (reading form (view_of at.now) regs.now words) first count from }
 {
     let offset = number(form, at, regs);
-    match form.family {
+    match family {
         Family::Vslideup => before(first, offset),
         Family::Vslidedown => behind(first, offset, most - count),
         Family::Vslide1up => before(first, 1),
@@ -107,5 +110,35 @@ pub(crate) fn elements_from<S: WordFile>(
         low
     } else {
         across(low, group_word(file, at, register, bit / 64 + 1), shift)
+    }
+}
+
+/// The same of the words of all registers, of the group whose words begin at a place.
+#[inline(always)]
+pub(crate) fn elements_in(
+    words: &[u64],
+    at: &Setting,
+    register: u8,
+    place: usize,
+    width: u32,
+    first: u32,
+) -> u64
+    requires all { length words.now ≡ words_of_all at.now.vlen }
+    requires place { place ≡ place_of at.now.vlen register 0 }
+    requires below { place < 65536 }
+    requires width { IsTrue (is_width width) }
+    requires small { first ≤ 65536 }
+    requires within { (k : ℕ) → k < 64 / width → place_of at.now.vlen register (element_word width (first + k)) < words_of_all at.now.vlen }
+    ensures { result ≡ joined width (64 / width) (λ k. element at.now.vlen words.now register width (first + k)) }
+{
+    joined_by_elements();
+    let bit = first * width;
+    let begins = place + bit as usize / 64;
+    let low = word_in(words, begins);
+    let shift = bit % 64;
+    if shift == 0 {
+        low
+    } else {
+        across(low, word_in(words, begins + 1), shift)
     }
 }

@@ -46,3 +46,20 @@ returns-in-Mask-clause-made c k l =
     ∙ ap (λ (ws : List ℕ). word_at c.args.at.now.vlen (words_after (reading (form_of c.args.i.now.op) at c.places-regs.result ws)) c.places-regs.result.vd k) c.words-in-Mask.ensures
     ∙ ap (λ (p : Places). word_at c.args.at.now.vlen (words_after (reading (form_of c.args.i.now.op) at p c.args.v.now.words)) p.vd k) c.places-regs.ensures
     ∙ ap (λ n. word_at c.args.at.now.vlen (words_after (reads c.args.i.now at c.args.v.now.words)) c.args.i.now.rd n) first
+
+pub full_words-requires-in-Perm-clause-within : goal.full_words-requires-in-Perm-clause-within
+full_words-requires-in-Perm-clause-within c k l =
+    let none : c.args.run.first ≤ 0 = c.if-run-gt0.false in
+    let first : c.args.run.first + k ≡ k = omega (arith, none) in
+    let at = view_of c.args.at.now in
+    let inside : k < length (destination_words (reads c.args.i.now at c.args.v.now.words)) = subst (λ n. n < length (destination_words (reads c.args.i.now at c.args.v.now.words))) first (c.requires.within k l) in
+    subst (λ (p : Places). k < length (destination_words (reading (form_of c.args.i.now.op) at p c.args.v.now.words))) (sym c.places-regs.ensures) inside
+
+pub returns-in-Perm-clause-made : goal.returns-in-Perm-clause-made
+returns-in-Perm-clause-made c k l =
+    let none : c.args.run.first ≤ 0 = c.if-run-gt0.false in
+    let first : k ≡ c.args.run.first + k = omega (arith, none) in
+    let at = view_of c.args.at.now in
+    c.full_words-in-Perm.ensures.made k l
+    ∙ ap (λ (p : Places). word_at c.args.at.now.vlen (words_after (reading (form_of c.args.i.now.op) at p c.args.v.now.words)) p.vd k) c.places-regs.ensures
+    ∙ ap (λ n. word_at c.args.at.now.vlen (words_after (reads c.args.i.now at c.args.v.now.words)) c.args.i.now.rd n) first

@@ -1,9 +1,8 @@
 -- What each joins.
-use Rattle.std.proofs.Common.{◌≡◌, bit_and, bit_or, min, max, if◌then◌else◌, sym, ap, ◌∙◌, rules}
+use Rattle.std.proofs.Common.{◌≡◌, bit_and, bit_or, min, max, sym, ap, ◌∙◌, rules}
 use Rattle.std.specs.Prelude.{bit_xor}
 use Rattle.vx_bits.specs.Arithmetic.{sum_at}
 use Rattle.vx_rows.specs.declared.family.Family.{Family}
-use Rattle.vx_vector.specs.Numbers.{is_less_at}
 use Rattle.vx_vector.specs.Rules.{rule_of}
 use Rattle.vx_operands.specs.Rising.{reduced_by}
 use Rattle.vx_mask.proofs.reduced.even_by_family.Goals as goal
@@ -33,17 +32,7 @@ at_sew-requires-in-Vredminu-clause-makes g c t v p =
     let is : v ≡ min t.sum t.x = search rules in
     is ∙ sym (ap (λ (f : Family). reduced_by (rule_of f) c.args.sew t.sum t.x) c.in-Vredminu.is)
 
-pub at_sew-requires-in-Vredmin-clause-makes : goal.at_sew-requires-in-Vredmin-clause-makes
-at_sew-requires-in-Vredmin-clause-makes g c t v p =
-    let is : v ≡ (if is_less_at c.args.sew t.x t.sum then t.x else t.sum) = search rules in
-    is ∙ sym (ap (λ (f : Family). reduced_by (rule_of f) c.args.sew t.sum t.x) c.in-Vredmin.is)
-
 pub at_sew-requires-in-Vredmaxu-clause-makes : goal.at_sew-requires-in-Vredmaxu-clause-makes
 at_sew-requires-in-Vredmaxu-clause-makes g c t v p =
     let is : v ≡ max t.sum t.x = search rules in
     is ∙ sym (ap (λ (f : Family). reduced_by (rule_of f) c.args.sew t.sum t.x) c.in-Vredmaxu.is)
-
-pub at_sew-requires-in-Vredmax-clause-makes : goal.at_sew-requires-in-Vredmax-clause-makes
-at_sew-requires-in-Vredmax-clause-makes g c t v p =
-    let is : v ≡ (if is_less_at c.args.sew t.sum t.x then t.x else t.sum) = search rules in
-    is ∙ sym (ap (λ (f : Family). reduced_by (rule_of f) c.args.sew t.sum t.x) c.in-Vredmax.is)

@@ -1,0 +1,10 @@
+use Rattle.vx_vstate.specs.Views.{view_of}
+use Rattle.vx_operands.specs.Forms.{reading}
+use Rattle.vx_packed.specs.Joined.{lane}
+use Rattle.vx_vector.specs.Lists.{element_or_zero}
+use Rattle.vx_vector.specs.Reading.{lists_of}
+use Rattle.vx_perm.proofs.Joining.{AreFirst}
+use Rattle.vx_perm.proofs.gathers.even_lanes.Given as goal
+
+abbrev pub invariant-loop-k : goal.invariant-loop-k
+invariant-loop-k l = AreFirst l.sew l.k l.value (λ k. element_or_zero (lists_of (reading l.form (view_of l.at) l.regs l.words)) (lane l.sew l.indices k))
