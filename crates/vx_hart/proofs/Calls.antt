@@ -1,5 +1,5 @@
 -- What a step does, by what stands at the pc.
-use Rattle.std.proofs.Common.{◌≡◌, ℕ, Bool, Option, Some, true, false, ◌&&◌, if◌then◌else◌, refl, sym, ap, ◌∙◌}
+use Rattle.std.proofs.Common.{◌≡◌, ℕ, Bool, Option, Some, true, false, if◌then◌else◌, refl, sym, ap, ◌∙◌}
 use Rattle.vx_decode.specs.declared.instr.Instr.{Instr}
 use Rattle.vx_rows.specs.Table.{class_of}
 use Rattle.vx_rows.specs.declared.row.Class.{Class}
@@ -8,7 +8,7 @@ use Rattle.vx_base.specs.declared.machine.Want.TheVariants.{Fetch}
 use Rattle.vx_decode.specs.Decoded.{decoded}
 use Rattle.vx_image.specs.Pages.{permits}
 use Rattle.vx_flat.specs.Outcome.{faulted}
-use Rattle.vx_flat.specs.Step.{upcoming, meaning, is_executed, is_legal, is_legal_as, performed, word_at_pc}
+use Rattle.vx_flat.specs.Step.{upcoming, meaning, is_legal, is_legal_as, performed, word_at_pc}
 use Rattle.vx_flat.specs.declared.upcoming.Upcoming.TheVariants.{Denied, Illegal, Instruction}
 use Rattle.vx_hart.specs.Outcomes.{outcome_as, outcome_next}
 
@@ -25,13 +25,13 @@ upcoming-word s word o e at is = rw (e, is, at) refl
 meaning-as : (b : Bool) (s : Flat) (word : ℕ) (i : Instr) → is_legal s i ≡ b → meaning s word (Some i) ≡ (if b then Instruction i else Illegal word)
 meaning-as b s word i e = ap (λ (a : Bool). if a then Instruction i else Illegal word) e
 
-is_legal-by : (s : Flat) (i : Instr) (c : Class) → c ≡ class_of i.op → (is_executed s.vectors_enabled c && is_legal_as c s i) ≡ is_legal s i
-is_legal-by s i c is = ap (λ (k : Class). is_executed s.vectors_enabled k && is_legal_as k s i) is
+is_legal-by : (s : Flat) (i : Instr) (c : Class) → c ≡ class_of i.op → (is_legal_as c s i) ≡ is_legal s i
+is_legal-by s i c is = ap (λ (k : Class). is_legal_as k s i) is
 
-pub meaning-legal : (s : Flat) (word : ℕ) (i : Instr) (c : Class) → c ≡ class_of i.op → (is_executed s.vectors_enabled c && is_legal_as c s i) ≡ true → meaning s word (Some i) ≡ Instruction i
+pub meaning-legal : (s : Flat) (word : ℕ) (i : Instr) (c : Class) → c ≡ class_of i.op → (is_legal_as c s i) ≡ true → meaning s word (Some i) ≡ Instruction i
 meaning-legal s word i c is e = meaning-as true s word i (sym (is_legal-by s i c is) ∙ e)
 
-pub meaning-illegal : (s : Flat) (word : ℕ) (i : Instr) (c : Class) → c ≡ class_of i.op → (is_executed s.vectors_enabled c && is_legal_as c s i) ≡ false → meaning s word (Some i) ≡ Illegal word
+pub meaning-illegal : (s : Flat) (word : ℕ) (i : Instr) (c : Class) → c ≡ class_of i.op → (is_legal_as c s i) ≡ false → meaning s word (Some i) ≡ Illegal word
 meaning-illegal s word i c is e = meaning-as false s word i (sym (is_legal-by s i c is) ∙ e)
 
 -- what is done, or asked for

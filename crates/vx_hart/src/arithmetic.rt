@@ -1,6 +1,7 @@
 //! Vector arithmetic: whether it is legal, and what it does.
 
 ghost use Rattle.std.specs.Prelude.{◌≡◌, ℕ, Bool, List, ◌&&◌, not, is_some, slice_index, false, Some, None, IfSome};
+ghost use Rattle.vx_base.specs.declared.machine.Fault.{Fault};
 ghost use Rattle.vx_decode.specs.Encoded.{IsValid};
 ghost use Rattle.vx_decode.specs.Legal.{is_illegal};
 ghost use Rattle.vx_flat.specs.Step.{calculate_by};
@@ -22,16 +23,13 @@ use vx_exec::{Calculator, instructions_read};
 use vx_rows::Family;
 use vx_vstate::Setting;
 
-/// The setting of vector arithmetic, where vectors are enabled and it is legal.
-pub fn calculation(enabled: bool, arch: &Arch, i: &Instr) -> Option<Setting>
+/// The setting of vector arithmetic, where it is legal.
+pub fn calculation(arch: &Arch, i: &Instr) -> Option<Setting>
     requires registers { NamesRegisters i.now }
-    ensures legal { (memory : FlatMemory) (output : List ℕ) → is_some result ≡ (enabled && not (is_illegal i.now (setting_at (flat_of enabled arch.now memory output) i.now))) }
+    ensures legal { (memory : FlatMemory) (output : List ℕ) → is_some result ≡ (not (is_illegal i.now (setting_at (flat_of arch.now memory output) i.now))) }
     ensures setting { IfSome result (λ at. view_of at ≡ setting_of arch.now.v (slice_index arch.now.regs.x i.now.rs1)) }
     ensures accepted { IfSome result (λ at. is_illegal i.now (view_of at) ≡ false) }
 {
-    if !enabled {
-        return None;
-    }
     let at = arch.v.setting(arch.regs.read(i.rs1));
     if !legal(i, &at) {
         return None;
@@ -52,7 +50,7 @@ pub fn calculate(
     requires class { class_of i.now.op ≡ class.VectorArithmetic family }
     requires setting { view_of at.now ≡ setting_of arch.old.v (slice_index arch.old.regs.x i.now.rs1) }
     requires accepted { is_illegal i.now (view_of at.now) ≡ false }
-    ensures { (enabled : Bool) (memory : FlatMemory) (output : List ℕ) → outcome_of result (flat_of enabled arch.new memory output) ≡ Some (calculate_by (reading_at (flat_of enabled arch.old memory output) i.now) (flat_of enabled arch.old memory output) i.now) }
+    ensures { (fault : Fault) (memory : FlatMemory) (output : List ℕ) → outcome_of result fault (flat_of arch.new memory output) ≡ Some (calculate_by (reading_at (flat_of arch.old memory output) i.now) (flat_of arch.old memory output) i.now) }
 {
     instructions_read();
     let told = calculator.execute(i, family, at, &mut arch.v);
@@ -60,10 +58,9 @@ pub fn calculate(
     complete(arch)
 }
 
-/// Does vector arithmetic where vectors are enabled and it is legal; where it isn't, nothing changes.
+/// Does vector arithmetic where it is legal; where it isn't, nothing changes.
 #[inline(never)]
 pub fn calculate_legal(
-    enabled: bool,
     calculator: &mut Calculator,
     arch: &mut Arch,
     i: Instr,
@@ -72,11 +69,11 @@ pub fn calculate_legal(
     requires valid { IsValid i }
     requires registers { NamesRegisters i }
     requires class { class_of i.op ≡ class.VectorArithmetic family }
-    ensures legal { (memory : FlatMemory) (output : List ℕ) → is_some result ≡ (enabled && not (is_illegal i (setting_at (flat_of enabled arch.old memory output) i))) }
-    ensures illegal { result ≡ None → (memory : FlatMemory) (output : List ℕ) → flat_of enabled arch.new memory output ≡ flat_of enabled arch.old memory output }
-    ensures performed { IfSome result (λ p. (memory : FlatMemory) (output : List ℕ) → outcome_of p (flat_of enabled arch.new memory output) ≡ Some (calculate_by (reading_at (flat_of enabled arch.old memory output) i) (flat_of enabled arch.old memory output) i)) }
+    ensures legal { (memory : FlatMemory) (output : List ℕ) → is_some result ≡ (not (is_illegal i (setting_at (flat_of arch.old memory output) i))) }
+    ensures illegal { result ≡ None → (memory : FlatMemory) (output : List ℕ) → flat_of arch.new memory output ≡ flat_of arch.old memory output }
+    ensures performed { IfSome result (λ p. (fault : Fault) (memory : FlatMemory) (output : List ℕ) → outcome_of p fault (flat_of arch.new memory output) ≡ Some (calculate_by (reading_at (flat_of arch.old memory output) i) (flat_of arch.old memory output) i)) }
 {
-    let Some(at) = calculation(enabled, arch, &i) else {
+    let Some(at) = calculation(arch, &i) else {
         return None;
     };
     Some(calculate(calculator, arch, &i, family, &at))

@@ -2,7 +2,7 @@ ghost use Rattle.std.specs.Prelude.{◌≡◌, ◌⊎◌, ℕ, Bool, List, ◌<�
 ghost use Rattle.vx_decode.specs.Encoded.{IsValid};
 ghost use Rattle.vx_decode.specs.Legal.{is_illegal};
 ghost use Rattle.vx_flat.specs.Prefix.{prefix_at, transfer_next};
-ghost use Rattle.vx_flat.specs.Step.{calculate_by, is_executed, is_legal_as, meaning, upcoming};
+ghost use Rattle.vx_flat.specs.Step.{calculate_by, is_legal_as, meaning, upcoming};
 ghost use Rattle.vx_flat.specs.Transfers.{below_done, first_failure, transfer, transferred};
 ghost use Rattle.vx_flat.specs.Transfers.{Direction as FlatDirection};
 ghost use Rattle.vx_flat.specs.Vectors.{reading_at, setting_at};
@@ -31,6 +31,7 @@ use crate::progress::{Advance, Found, Progress};
 use crate::scalars::{affect, fault, load, store};
 use std::alloc::{AllocError, Global};
 use std::marker::Model;
+use vx_base::Fault;
 use vx_decode::{Instr, Known, KnownWords, decoded_is_valid};
 use vx_exec::Calculator;
 use vx_rows::{Addressing, Class, Eew, Family};
@@ -41,34 +42,44 @@ use vx_vstate::Setting;
 /// made.
 #[derive(Debug, Drop)]
 pub struct Executor {
-    /// The hart's vector instructions are enabled.
-    vectors_enabled: bool,
     words: KnownWords,
     /// Room for the words of a vector instruction.
     calculator: Calculator,
     /// The vector registers as they were at the start of the last vector load.
     kept: Kept,
+    /// The last fault.
+    fault: Fault,
 }
 
 impl Model for Executor {
-    ghost use Rattle.std.specs.Prelude.{Bool};
+    ghost use Rattle.vx_base.specs.declared.machine.Fault.{Fault};
 
-    ghost Value = { Bool };
+    ghost Value = { Fault };
 
-    ghost view = { λ e. e.vectors_enabled };
+    ghost view = { λ e. e.fault };
 }
 
 impl Executor {
-    /// The executor of a hart whose vector instructions are enabled or not. It takes all the memory that it ever needs.
-    pub fn new(alloc: Global, vectors_enabled: bool) -> Result<Executor, AllocError>
-        ensures { IfOk result (λ e. e ≡ vectors_enabled) }
-    {
+    /// The executor of a hart. It takes all the memory that it ever needs.
+    pub fn new(alloc: Global) -> Result<Executor, AllocError> {
         Ok(Executor {
-            vectors_enabled,
             words: KnownWords::new(alloc)?,
             calculator: Calculator::new(alloc)?,
             kept: Kept::new(alloc)?,
+            fault: Fault {
+                cause: 0,
+                tval: 0,
+                vstart: 0,
+            },
         })
+    }
+
+    /// The last fault: that of an instruction of which `Progress::Faulted` was just said.
+    #[inline(always)]
+    pub fn fault(&self) -> Fault
+        ensures { result ≡ self.now }
+    {
+        self.fault
     }
 
     /// What stands at the pc. Whether it is legal isn't looked at.
@@ -80,7 +91,7 @@ impl Executor {
         ensures memory { M.state memory.new physical.new ≡ M.state memory.old physical.old }
         ensures same { self.new ≡ self.old }
         ensures valid { IsValidFound result }
-        ensures found { (output : List ℕ) → let s = flat_of self.old arch.now (M.state memory.old physical.old) output in upcoming s ≡ next_of s result }
+        ensures found { (output : List ℕ) → let s = flat_of arch.now (M.state memory.old physical.old) output in upcoming s ≡ next_of s result }
     {
         decoded_is_valid();
         let Some(word) = memory.word(physical, arch.pc) else {
@@ -102,20 +113,19 @@ impl Executor {
         requires fits { M.fits memory.old physical.old }
         ensures fits { M.fits memory.new physical.new }
         ensures rest { M.rest memory.new physical.new ≡ M.rest memory.old physical.old }
-        ensures same { self.new ≡ self.old }
-        ensures class { (output : List ℕ) → result.class ≡ class_next (upcoming (flat_of self.old arch.old (M.state memory.old physical.old) output)) }
-        ensures waits { asks result.class ≡ true → (output : List ℕ) → flat_of self.new arch.new (M.state memory.new physical.new) output ≡ flat_of self.old arch.old (M.state memory.old physical.old) output }
-        ensures performed { (output : List ℕ) → let s = flat_of self.old arch.old (M.state memory.old physical.old) output in
-            outcome_of result.progress (flat_of self.new arch.new (M.state memory.new physical.new) output) ≡ outcome_next s (upcoming s) }
+        ensures class { (output : List ℕ) → result.class ≡ class_next (upcoming (flat_of arch.old (M.state memory.old physical.old) output)) }
+        ensures waits { asks result.class ≡ true → (output : List ℕ) → flat_of arch.new (M.state memory.new physical.new) output ≡ flat_of arch.old (M.state memory.old physical.old) output }
+        ensures performed { (output : List ℕ) → let s = flat_of arch.old (M.state memory.old physical.old) output in
+            outcome_of result.progress self.new (flat_of arch.new (M.state memory.new physical.new) output) ≡ outcome_next s (upcoming s) }
     {
         match self.find(arch, memory, physical) {
             Found::Denied => Advance {
                 class: None,
-                progress: fault(arch, 12, arch.pc),
+                progress: fault(arch, &mut self.fault, 12, arch.pc),
             },
             Found::Unknown(word) => Advance {
                 class: None,
-                progress: fault(arch, 2, u64::from(word)),
+                progress: fault(arch, &mut self.fault, 2, u64::from(word)),
             },
             Found::Known(word, known) => self.advance_by(arch, memory, physical, word, known),
         }
@@ -134,24 +144,23 @@ impl Executor {
         requires fits { M.fits memory.old physical.old }
         ensures fits { M.fits memory.new physical.new }
         ensures rest { M.rest memory.new physical.new ≡ M.rest memory.old physical.old }
-        ensures same { self.new ≡ self.old }
-        ensures waits { (output : List ℕ) → let s = flat_of self.old arch.old (M.state memory.old physical.old) output in
-            is_service (meaning s word (Some known.instr)) ≡ true → flat_of self.new arch.new (M.state memory.new physical.new) output ≡ s }
-        ensures performed { (output : List ℕ) → let s = flat_of self.old arch.old (M.state memory.old physical.old) output in
-            outcome_of result (flat_of self.new arch.new (M.state memory.new physical.new) output) ≡ outcome_next s (meaning s word (Some known.instr)) }
+        ensures waits { (output : List ℕ) → let s = flat_of arch.old (M.state memory.old physical.old) output in
+            is_service (meaning s word (Some known.instr)) ≡ true → flat_of arch.new (M.state memory.new physical.new) output ≡ s }
+        ensures performed { (output : List ℕ) → let s = flat_of arch.old (M.state memory.old physical.old) output in
+            outcome_of result self.new (flat_of arch.new (M.state memory.new physical.new) output) ≡ outcome_next s (meaning s word (Some known.instr)) }
     {
         self.advance_by(arch, memory, physical, word, known)
             .progress
     }
 
-    /// The setting of vector arithmetic, where vectors are enabled and it is legal.
+    /// The setting of vector arithmetic, where it is legal.
     pub fn calculation(&self, arch: &Arch, i: &Instr) -> Option<Setting>
         requires registers { NamesRegisters i.now }
-        ensures legal { (memory : FlatMemory) (output : List ℕ) → is_some result ≡ (self.now && not (is_illegal i.now (setting_at (flat_of self.now arch.now memory output) i.now))) }
+        ensures legal { (memory : FlatMemory) (output : List ℕ) → is_some result ≡ (not (is_illegal i.now (setting_at (flat_of arch.now memory output) i.now))) }
         ensures setting { IfSome result (λ at. view_of at ≡ setting_of arch.now.v (slice_index arch.now.regs.x i.now.rs1)) }
         ensures accepted { IfSome result (λ at. is_illegal i.now (view_of at) ≡ false) }
     {
-        calculation(self.vectors_enabled, arch, i)
+        calculation(arch, i)
     }
 
     /// Does vector arithmetic, which is legal with this setting.
@@ -168,12 +177,12 @@ impl Executor {
         requires setting { view_of at.now ≡ setting_of arch.old.v (slice_index arch.old.regs.x i.now.rs1) }
         requires accepted { is_illegal i.now (view_of at.now) ≡ false }
         ensures same { self.new ≡ self.old }
-        ensures performed { (enabled : Bool) (memory : FlatMemory) (output : List ℕ) → outcome_of result (flat_of enabled arch.new memory output) ≡ Some (calculate_by (reading_at (flat_of enabled arch.old memory output) i.now) (flat_of enabled arch.old memory output) i.now) }
+        ensures performed { (memory : FlatMemory) (output : List ℕ) → outcome_of result self.new (flat_of arch.new memory output) ≡ Some (calculate_by (reading_at (flat_of arch.old memory output) i.now) (flat_of arch.old memory output) i.now) }
     {
         calculate(&mut self.calculator, arch, i, family, at)
     }
 
-    /// The accesses of a vector load or store and its setting, where vectors are enabled and it is legal.
+    /// The accesses of a vector load or store and its setting, where it is legal.
     pub fn movement(
         &self,
         arch: &Arch,
@@ -184,12 +193,12 @@ impl Executor {
         requires valid { IsValid i.now }
         requires registers { NamesRegisters i.now }
         requires row { (class_of i.now.op ≡ class.VectorLoad addressing encoded) ⊎ (class_of i.now.op ≡ class.VectorStore addressing encoded) }
-        ensures legal { (memory : FlatMemory) (output : List ℕ) → is_some result ≡ (self.now && not (is_illegal i.now (setting_at (flat_of self.now arch.now memory output) i.now))) }
+        ensures legal { (memory : FlatMemory) (output : List ℕ) → is_some result ≡ (not (is_illegal i.now (setting_at (flat_of arch.now memory output) i.now))) }
         ensures moves { IfSome result (λ r. Moves arch.now.v r.0 r.1) }
         ensures addressing { IfSome result (λ r. (movement_with r.0 arch.now.v.words).addressing ≡ addressing) }
-        ensures same { IfSome result (λ r. (direction : FlatDirection) (memory : FlatMemory) (output : List ℕ) → transfer_with direction r.0 arch.now.v ≡ transfer direction addressing encoded (flat_of self.now arch.now memory output) i.now) }
+        ensures same { IfSome result (λ r. (direction : FlatDirection) (memory : FlatMemory) (output : List ℕ) → transfer_with direction r.0 arch.now.v ≡ transfer direction addressing encoded (flat_of arch.now memory output) i.now) }
     {
-        movement(self.vectors_enabled, arch, addressing, encoded, i)
+        movement(arch, addressing, encoded, i)
     }
 
     /// Does a vector load or store, which is legal.
@@ -208,12 +217,12 @@ impl Executor {
         requires fits { M.fits memory.old physical.old }
         ensures fits { M.fits memory.new physical.new }
         ensures rest { M.rest memory.new physical.new ≡ M.rest memory.old physical.old }
-        ensures same { self.new ≡ self.old }
-        ensures done { (enabled : Bool) (output : List ℕ) → outcome_of result (flat_of enabled arch.new (M.state memory.new physical.new) output) ≡ Some (transferred (transfer_with (direction_of direction) pattern.now arch.old.v) (flat_of enabled arch.old (M.state memory.old physical.old) output)) }
+        ensures done { (output : List ℕ) → outcome_of result self.new (flat_of arch.new (M.state memory.new physical.new) output) ≡ Some (transferred (transfer_with (direction_of direction) pattern.now arch.old.v) (flat_of arch.old (M.state memory.old physical.old) output)) }
     {
         transfer(
             &mut self.kept,
             arch,
+            &mut self.fault,
             memory,
             physical,
             direction,
@@ -243,9 +252,9 @@ impl Executor {
         ensures fits { M.fits memory.new physical.new }
         ensures rest { M.rest memory.new physical.new ≡ M.rest memory.old physical.old }
         ensures same { self.new ≡ self.old }
-        ensures done { (enabled : Bool) (output : List ℕ) → flat_of enabled arch.new (M.state memory.new physical.new) output ≡ below_done (transfer_with (direction_of direction) pattern.now arch.old.v) k (flat_of enabled arch.old (M.state memory.old physical.old) output) }
-        ensures prefix { (enabled : Bool) (output : List ℕ) → let s = flat_of enabled arch.old (M.state memory.old physical.old) output in
-            transfer_next s (upcoming s) ≡ Some (transfer_with (direction_of direction) pattern.now arch.old.v) → prefix_at k s ≡ Some (flat_of enabled arch.new (M.state memory.new physical.new) output) }
+        ensures done { (output : List ℕ) → flat_of arch.new (M.state memory.new physical.new) output ≡ below_done (transfer_with (direction_of direction) pattern.now arch.old.v) k (flat_of arch.old (M.state memory.old physical.old) output) }
+        ensures prefix { (output : List ℕ) → let s = flat_of arch.old (M.state memory.old physical.old) output in
+            transfer_next s (upcoming s) ≡ Some (transfer_with (direction_of direction) pattern.now arch.old.v) → prefix_at k s ≡ Some (flat_of arch.new (M.state memory.new physical.new) output) }
     {
         reach(
             &mut self.kept,
@@ -273,16 +282,15 @@ impl Executor {
         requires fits { M.fits memory.old physical.old }
         ensures fits { M.fits memory.new physical.new }
         ensures rest { M.rest memory.new physical.new ≡ M.rest memory.old physical.old }
-        ensures same { self.new ≡ self.old }
-        ensures class { (output : List ℕ) → result.class ≡ class_next (meaning (flat_of self.old arch.old (M.state memory.old physical.old) output) word (Some known.instr)) }
-        ensures waits { asks result.class ≡ true → (output : List ℕ) → flat_of self.new arch.new (M.state memory.new physical.new) output ≡ flat_of self.old arch.old (M.state memory.old physical.old) output }
-        ensures performed { (output : List ℕ) → let s = flat_of self.old arch.old (M.state memory.old physical.old) output in
-            outcome_of result.progress (flat_of self.new arch.new (M.state memory.new physical.new) output) ≡ outcome_next s (meaning s word (Some known.instr)) }
+        ensures class { (output : List ℕ) → result.class ≡ class_next (meaning (flat_of arch.old (M.state memory.old physical.old) output) word (Some known.instr)) }
+        ensures waits { asks result.class ≡ true → (output : List ℕ) → flat_of arch.new (M.state memory.new physical.new) output ≡ flat_of arch.old (M.state memory.old physical.old) output }
+        ensures performed { (output : List ℕ) → let s = flat_of arch.old (M.state memory.old physical.old) output in
+            outcome_of result.progress self.new (flat_of arch.new (M.state memory.new physical.new) output) ≡ outcome_next s (meaning s word (Some known.instr)) }
     {
         let Some(progress) = self.perform(arch, memory, physical, known.class, known.instr) else {
             return Advance {
                 class: None,
-                progress: fault(arch, 2, u64::from(word)),
+                progress: fault(arch, &mut self.fault, 2, u64::from(word)),
             };
         };
         Advance {
@@ -308,28 +316,31 @@ impl Executor {
         requires fits { M.fits memory.old physical.old }
         ensures fits { M.fits memory.new physical.new }
         ensures rest { M.rest memory.new physical.new ≡ M.rest memory.old physical.old }
-        ensures same { self.new ≡ self.old }
-        ensures legal { (output : List ℕ) → is_some result ≡ (is_executed self.old class && is_legal_as class (flat_of self.old arch.old (M.state memory.old physical.old) output) i) }
-        ensures illegal { result ≡ None → (output : List ℕ) → flat_of self.new arch.new (M.state memory.new physical.new) output ≡ flat_of self.old arch.old (M.state memory.old physical.old) output }
-        ensures waits { is_service_class class ≡ true → (output : List ℕ) → flat_of self.new arch.new (M.state memory.new physical.new) output ≡ flat_of self.old arch.old (M.state memory.old physical.old) output }
-        ensures performed { IfSome result (λ p. (output : List ℕ) → outcome_of p (flat_of self.new arch.new (M.state memory.new physical.new) output) ≡ outcome_as class (flat_of self.old arch.old (M.state memory.old physical.old) output) i) }
+        ensures legal { (output : List ℕ) → is_some result ≡ (is_legal_as class (flat_of arch.old (M.state memory.old physical.old) output) i) }
+        ensures illegal { result ≡ None → (output : List ℕ) → flat_of arch.new (M.state memory.new physical.new) output ≡ flat_of arch.old (M.state memory.old physical.old) output }
+        ensures waits { is_service_class class ≡ true → (output : List ℕ) → flat_of arch.new (M.state memory.new physical.new) output ≡ flat_of arch.old (M.state memory.old physical.old) output }
+        ensures performed { IfSome result (λ p. (output : List ℕ) → outcome_of p self.new (flat_of arch.new (M.state memory.new physical.new) output) ≡ outcome_as class (flat_of arch.old (M.state memory.old physical.old) output) i) }
     {
         match class {
-            Class::Arithmetic | Class::Multiply | Class::Divide => Some(affect(arch, i)),
-            Class::Jump | Class::Branch | Class::Fence => Some(affect(arch, i)),
-            Class::Load => Some(load(arch, memory, physical, i)),
-            Class::Store => Some(store(arch, memory, physical, i)),
+            Class::Arithmetic | Class::Multiply | Class::Divide => Some(affect(
+                arch,
+                &mut self.fault,
+                i,
+            )),
+            Class::Jump | Class::Branch | Class::Fence => Some(affect(arch, &mut self.fault, i)),
+            Class::Load => Some(load(arch, &mut self.fault, memory, physical, i)),
+            Class::Store => Some(store(arch, &mut self.fault, memory, physical, i)),
             Class::Ecall => Some(Progress::Asks),
-            Class::Ebreak => Some(fault(arch, 3, 0)),
-            Class::Csr => control(self.vectors_enabled, arch, i),
-            Class::Set => configure(self.vectors_enabled, arch, i),
+            Class::Ebreak => Some(fault(arch, &mut self.fault, 3, 0)),
+            Class::Csr => control(arch, i),
+            Class::Set => configure(arch, i),
             Class::VectorArithmetic(family) => {
-                calculate_legal(self.vectors_enabled, &mut self.calculator, arch, i, family)
+                calculate_legal(&mut self.calculator, arch, i, family)
             }
             Class::VectorLoad(addressing, encoded) => load_vectors(
-                self.vectors_enabled,
                 &mut self.kept,
                 arch,
+                &mut self.fault,
                 memory,
                 physical,
                 addressing,
@@ -337,9 +348,9 @@ impl Executor {
                 i,
             ),
             Class::VectorStore(addressing, encoded) => store_vectors(
-                self.vectors_enabled,
                 &mut self.kept,
                 arch,
+                &mut self.fault,
                 memory,
                 physical,
                 addressing,

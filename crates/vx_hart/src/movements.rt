@@ -1,6 +1,7 @@
 //! Vector loads and stores: whether one is legal, and what it does, as a whole or up to an element.
 
 ghost use Rattle.std.specs.Prelude.{◌≡◌, ◌⊎◌, ℕ, Bool, List, ◌<◌, ◌≤◌, ◌&&◌, not, is_some, true, Some, None, IfSome};
+ghost use Rattle.vx_base.specs.declared.machine.Fault.{Fault};
 ghost use Rattle.vx_decode.specs.Encoded.{IsValid};
 ghost use Rattle.vx_decode.specs.Legal.{is_illegal};
 ghost use Rattle.vx_flat.specs.Outcome.Outcome.{Next};
@@ -29,15 +30,15 @@ use crate::memory::Memory;
 use crate::progress::Progress;
 use crate::scalars::{complete, fault};
 use crate::transfers::{is_fault_only_first, load_elements, store_elements};
+use vx_base::Fault;
 use vx_decode::{Instr, legal};
 use vx_rows::{Addressing, Eew};
 use vx_vaddr::AccessPattern;
 use vx_vector::legal_movements_are_sound;
 use vx_vstate::Setting;
 
-/// The accesses of a vector load or store and its setting, where vectors are enabled and it is legal.
+/// The accesses of a vector load or store and its setting, where it is legal.
 pub fn movement(
-    enabled: bool,
     arch: &Arch,
     addressing: Addressing,
     encoded: Eew,
@@ -46,14 +47,11 @@ pub fn movement(
     requires valid { IsValid i.now }
     requires registers { NamesRegisters i.now }
     requires row { (class_of i.now.op ≡ VectorLoad addressing encoded) ⊎ (class_of i.now.op ≡ VectorStore addressing encoded) }
-    ensures legal { (memory : FlatMemory) (output : List ℕ) → is_some result ≡ (enabled && not (is_illegal i.now (setting_at (flat_of enabled arch.now memory output) i.now))) }
+    ensures legal { (memory : FlatMemory) (output : List ℕ) → is_some result ≡ (not (is_illegal i.now (setting_at (flat_of arch.now memory output) i.now))) }
     ensures moves { IfSome result (λ r. Moves arch.now.v r.0 r.1) }
     ensures addressing { IfSome result (λ r. (movement_with r.0 arch.now.v.words).addressing ≡ addressing) }
-    ensures same { IfSome result (λ r. (direction : FlatDirection) (memory : FlatMemory) (output : List ℕ) → transfer_with direction r.0 arch.now.v ≡ transfer direction addressing encoded (flat_of enabled arch.now memory output) i.now) }
+    ensures same { IfSome result (λ r. (direction : FlatDirection) (memory : FlatMemory) (output : List ℕ) → transfer_with direction r.0 arch.now.v ≡ transfer direction addressing encoded (flat_of arch.now memory output) i.now) }
 {
-    if !enabled {
-        return None;
-    }
     let base = arch.regs.read(i.rs1);
     let stride = arch.regs.read(i.rs2);
     let at = arch.v.setting(base);
@@ -81,7 +79,7 @@ fn load_by<P, M: Memory<P>>(
     requires fits { M.fits memory.old physical.old }
     ensures fits { M.fits memory.new physical.new }
     ensures rest { M.rest memory.new physical.new ≡ M.rest memory.old physical.old }
-    ensures moved { (enabled : Bool) (output : List ℕ) → HasMoved Loading (movement_with pattern.now arch.old.v.words) end (flat_of enabled arch.old (M.state memory.old physical.old) output) (flat_of enabled arch.new (M.state memory.new physical.new) output) result }
+    ensures moved { (output : List ℕ) → HasMoved Loading (movement_with pattern.now arch.old.v.words) end (flat_of arch.old (M.state memory.old physical.old) output) (flat_of arch.new (M.state memory.new physical.new) output) result }
 {
     kept.keep_for(pattern, &arch.v);
     load_elements(pattern, at, end, kept, &mut arch.v, memory, physical)
@@ -101,7 +99,7 @@ fn store_by<P, M: Memory<P>>(
     requires fits { M.fits memory.old physical.old }
     ensures fits { M.fits memory.new physical.new }
     ensures rest { M.rest memory.new physical.new ≡ M.rest memory.old physical.old }
-    ensures moved { (enabled : Bool) (output : List ℕ) → HasMoved Storing (movement_with pattern.now arch.old.v.words) end (flat_of enabled arch.old (M.state memory.old physical.old) output) (flat_of enabled arch.new (M.state memory.new physical.new) output) result }
+    ensures moved { (output : List ℕ) → HasMoved Storing (movement_with pattern.now arch.old.v.words) end (flat_of arch.old (M.state memory.old physical.old) output) (flat_of arch.new (M.state memory.new physical.new) output) result }
 {
     store_elements(pattern, at, end, &arch.v, memory, physical)
 }
@@ -123,7 +121,7 @@ fn go_through<P, M: Memory<P>>(
     requires fits { M.fits memory.old physical.old }
     ensures fits { M.fits memory.new physical.new }
     ensures rest { M.rest memory.new physical.new ≡ M.rest memory.old physical.old }
-    ensures moved { (enabled : Bool) (output : List ℕ) → HasMoved (direction_of direction) (movement_with pattern.now arch.old.v.words) end (flat_of enabled arch.old (M.state memory.old physical.old) output) (flat_of enabled arch.new (M.state memory.new physical.new) output) result }
+    ensures moved { (output : List ℕ) → HasMoved (direction_of direction) (movement_with pattern.now arch.old.v.words) end (flat_of arch.old (M.state memory.old physical.old) output) (flat_of arch.new (M.state memory.new physical.new) output) result }
 {
     match direction {
         Direction::Loading => load_by(kept, arch, memory, physical, pattern, at, end),
@@ -132,10 +130,15 @@ fn go_through<P, M: Memory<P>>(
 }
 
 /// Ends a vector load or store whose elements below its stop are done.
-fn stop(arch: &mut Arch, addressing: Addressing, failed: Option<Failed>) -> Progress
+fn stop(
+    arch: &mut Arch,
+    last: &mut Fault,
+    addressing: Addressing,
+    failed: Option<Failed>,
+) -> Progress
     requires within { IfSome failed (λ f. f.item.element < arch.old.v.vlen) }
     requires trims { IfSome failed (λ f. is_fault_only_first addressing ≡ true → f.item.element ≤ arch.old.v.vl) }
-    ensures { (enabled : Bool) (memory : FlatMemory) (output : List ℕ) → outcome_of result (flat_of enabled arch.new memory output) ≡ Some (stopped addressing (flat_of enabled arch.old memory output) failed) }
+    ensures { (memory : FlatMemory) (output : List ℕ) → outcome_of result last.new (flat_of arch.new memory output) ≡ Some (stopped addressing (flat_of arch.old memory output) failed) }
 {
     match failed {
         None => end(arch),
@@ -145,7 +148,7 @@ fn stop(arch: &mut Arch, addressing: Addressing, failed: Option<Failed>) -> Prog
                 end(arch)
             } else {
                 arch.v.finish(f.item.element, false);
-                fault(arch, f.cause, f.item.address)
+                fault(arch, last, f.cause, f.item.address)
             }
         }
     }
@@ -153,7 +156,7 @@ fn stop(arch: &mut Arch, addressing: Addressing, failed: Option<Failed>) -> Prog
 
 /// A vector instruction has completed.
 fn end(arch: &mut Arch) -> Progress
-    ensures { (enabled : Bool) (memory : FlatMemory) (output : List ℕ) → outcome_of result (flat_of enabled arch.new memory output) ≡ Some (Next (completed (flat_of enabled arch.old memory output))) }
+    ensures { (fault : Fault) (memory : FlatMemory) (output : List ℕ) → outcome_of result fault (flat_of arch.new memory output) ≡ Some (Next (completed (flat_of arch.old memory output))) }
 {
     let _vlen = arch.v.vlen();
     arch.v.finish(0, false);
@@ -163,7 +166,7 @@ fn end(arch: &mut Arch) -> Progress
 /// Sets vstart.
 fn set_vstart(arch: &mut Arch, k: u32)
     requires { k < arch.old.v.vlen }
-    ensures { (enabled : Bool) (memory : FlatMemory) (output : List ℕ) → flat_of enabled arch.new memory output ≡ at_element k (flat_of enabled arch.old memory output) }
+    ensures { (memory : FlatMemory) (output : List ℕ) → flat_of arch.new memory output ≡ at_element k (flat_of arch.old memory output) }
 {
     arch.v.finish(k, false);
 }
@@ -172,6 +175,7 @@ fn set_vstart(arch: &mut Arch, k: u32)
 pub fn transfer<P, M: Memory<P>>(
     kept: &mut Kept,
     arch: &mut Arch,
+    last: &mut Fault,
     memory: &mut M,
     physical: &mut P,
     direction: Direction,
@@ -184,11 +188,11 @@ pub fn transfer<P, M: Memory<P>>(
     requires fits { M.fits memory.old physical.old }
     ensures fits { M.fits memory.new physical.new }
     ensures rest { M.rest memory.new physical.new ≡ M.rest memory.old physical.old }
-    ensures done { (enabled : Bool) (output : List ℕ) → outcome_of result (flat_of enabled arch.new (M.state memory.new physical.new) output) ≡ Some (transferred (transfer_with (direction_of direction) pattern.now arch.old.v) (flat_of enabled arch.old (M.state memory.old physical.old) output)) }
+    ensures done { (output : List ℕ) → outcome_of result last.new (flat_of arch.new (M.state memory.new physical.new) output) ≡ Some (transferred (transfer_with (direction_of direction) pattern.now arch.old.v) (flat_of arch.old (M.state memory.old physical.old) output)) }
 {
     let count = pattern.count();
     let failed = go_through(kept, arch, memory, physical, direction, pattern, at, count);
-    stop(arch, addressing, failed)
+    stop(arch, last, addressing, failed)
 }
 
 /// Does the elements of a vector load or store that are below k, of which no access fails, and sets vstart to k. It is legal.
@@ -209,20 +213,20 @@ pub fn reach<P, M: Memory<P>>(
     requires fits { M.fits memory.old physical.old }
     ensures fits { M.fits memory.new physical.new }
     ensures rest { M.rest memory.new physical.new ≡ M.rest memory.old physical.old }
-    ensures done { (enabled : Bool) (output : List ℕ) → flat_of enabled arch.new (M.state memory.new physical.new) output ≡ below_done (transfer_with (direction_of direction) pattern.now arch.old.v) k (flat_of enabled arch.old (M.state memory.old physical.old) output) }
-    ensures prefix { (enabled : Bool) (output : List ℕ) → let s = flat_of enabled arch.old (M.state memory.old physical.old) output in
-        transfer_next s (upcoming s) ≡ Some (transfer_with (direction_of direction) pattern.now arch.old.v) → prefix_at k s ≡ Some (flat_of enabled arch.new (M.state memory.new physical.new) output) }
+    ensures done { (output : List ℕ) → flat_of arch.new (M.state memory.new physical.new) output ≡ below_done (transfer_with (direction_of direction) pattern.now arch.old.v) k (flat_of arch.old (M.state memory.old physical.old) output) }
+    ensures prefix { (output : List ℕ) → let s = flat_of arch.old (M.state memory.old physical.old) output in
+        transfer_next s (upcoming s) ≡ Some (transfer_with (direction_of direction) pattern.now arch.old.v) → prefix_at k s ≡ Some (flat_of arch.new (M.state memory.new physical.new) output) }
 {
     let _failed = go_through(kept, arch, memory, physical, direction, pattern, at, k);
     set_vstart(arch, k);
 }
 
-/// Does a vector load or store where vectors are enabled and it is legal; where it isn't, nothing changes.
+/// Does a vector load or store where it is legal; where it isn't, nothing changes.
 #[inline(always)]
 fn transfer_legal<P, M: Memory<P>>(
-    enabled: bool,
     kept: &mut Kept,
     arch: &mut Arch,
+    last: &mut Fault,
     memory: &mut M,
     physical: &mut P,
     direction: Direction,
@@ -236,24 +240,24 @@ fn transfer_legal<P, M: Memory<P>>(
     requires fits { M.fits memory.old physical.old }
     ensures fits { M.fits memory.new physical.new }
     ensures rest { M.rest memory.new physical.new ≡ M.rest memory.old physical.old }
-    ensures legal { (output : List ℕ) → is_some result ≡ (enabled && not (is_illegal i (setting_at (flat_of enabled arch.old (M.state memory.old physical.old) output) i))) }
-    ensures illegal { result ≡ None → (output : List ℕ) → flat_of enabled arch.new (M.state memory.new physical.new) output ≡ flat_of enabled arch.old (M.state memory.old physical.old) output }
-    ensures performed { IfSome result (λ p. (output : List ℕ) → outcome_of p (flat_of enabled arch.new (M.state memory.new physical.new) output) ≡ Some (transferred (transfer (direction_of direction) addressing encoded (flat_of enabled arch.old (M.state memory.old physical.old) output) i) (flat_of enabled arch.old (M.state memory.old physical.old) output))) }
+    ensures legal { (output : List ℕ) → is_some result ≡ (not (is_illegal i (setting_at (flat_of arch.old (M.state memory.old physical.old) output) i))) }
+    ensures illegal { result ≡ None → (output : List ℕ) → flat_of arch.new (M.state memory.new physical.new) output ≡ flat_of arch.old (M.state memory.old physical.old) output }
+    ensures performed { IfSome result (λ p. (output : List ℕ) → outcome_of p last.new (flat_of arch.new (M.state memory.new physical.new) output) ≡ Some (transferred (transfer (direction_of direction) addressing encoded (flat_of arch.old (M.state memory.old physical.old) output) i) (flat_of arch.old (M.state memory.old physical.old) output))) }
 {
-    let Some((pattern, at)) = movement(enabled, arch, addressing, encoded, &i) else {
+    let Some((pattern, at)) = movement(arch, addressing, encoded, &i) else {
         return None;
     };
     Some(transfer(
-        kept, arch, memory, physical, direction, addressing, &pattern, &at,
+        kept, arch, last, memory, physical, direction, addressing, &pattern, &at,
     ))
 }
 
-/// Does a vector load where vectors are enabled and it is legal; where it isn't, nothing changes.
+/// Does a vector load where it is legal; where it isn't, nothing changes.
 #[inline(never)]
 pub fn load_vectors<P, M: Memory<P>>(
-    enabled: bool,
     kept: &mut Kept,
     arch: &mut Arch,
+    last: &mut Fault,
     memory: &mut M,
     physical: &mut P,
     addressing: Addressing,
@@ -266,14 +270,14 @@ pub fn load_vectors<P, M: Memory<P>>(
     requires fits { M.fits memory.old physical.old }
     ensures fits { M.fits memory.new physical.new }
     ensures rest { M.rest memory.new physical.new ≡ M.rest memory.old physical.old }
-    ensures legal { (output : List ℕ) → is_some result ≡ (enabled && not (is_illegal i (setting_at (flat_of enabled arch.old (M.state memory.old physical.old) output) i))) }
-    ensures illegal { result ≡ None → (output : List ℕ) → flat_of enabled arch.new (M.state memory.new physical.new) output ≡ flat_of enabled arch.old (M.state memory.old physical.old) output }
-    ensures performed { IfSome result (λ p. (output : List ℕ) → outcome_of p (flat_of enabled arch.new (M.state memory.new physical.new) output) ≡ Some (transferred (transfer Loading addressing encoded (flat_of enabled arch.old (M.state memory.old physical.old) output) i) (flat_of enabled arch.old (M.state memory.old physical.old) output))) }
+    ensures legal { (output : List ℕ) → is_some result ≡ (not (is_illegal i (setting_at (flat_of arch.old (M.state memory.old physical.old) output) i))) }
+    ensures illegal { result ≡ None → (output : List ℕ) → flat_of arch.new (M.state memory.new physical.new) output ≡ flat_of arch.old (M.state memory.old physical.old) output }
+    ensures performed { IfSome result (λ p. (output : List ℕ) → outcome_of p last.new (flat_of arch.new (M.state memory.new physical.new) output) ≡ Some (transferred (transfer Loading addressing encoded (flat_of arch.old (M.state memory.old physical.old) output) i) (flat_of arch.old (M.state memory.old physical.old) output))) }
 {
     transfer_legal(
-        enabled,
         kept,
         arch,
+        last,
         memory,
         physical,
         Direction::Loading,
@@ -283,12 +287,12 @@ pub fn load_vectors<P, M: Memory<P>>(
     )
 }
 
-/// Does a vector store where vectors are enabled and it is legal; where it isn't, nothing changes.
+/// Does a vector store where it is legal; where it isn't, nothing changes.
 #[inline(never)]
 pub fn store_vectors<P, M: Memory<P>>(
-    enabled: bool,
     kept: &mut Kept,
     arch: &mut Arch,
+    last: &mut Fault,
     memory: &mut M,
     physical: &mut P,
     addressing: Addressing,
@@ -301,14 +305,14 @@ pub fn store_vectors<P, M: Memory<P>>(
     requires fits { M.fits memory.old physical.old }
     ensures fits { M.fits memory.new physical.new }
     ensures rest { M.rest memory.new physical.new ≡ M.rest memory.old physical.old }
-    ensures legal { (output : List ℕ) → is_some result ≡ (enabled && not (is_illegal i (setting_at (flat_of enabled arch.old (M.state memory.old physical.old) output) i))) }
-    ensures illegal { result ≡ None → (output : List ℕ) → flat_of enabled arch.new (M.state memory.new physical.new) output ≡ flat_of enabled arch.old (M.state memory.old physical.old) output }
-    ensures performed { IfSome result (λ p. (output : List ℕ) → outcome_of p (flat_of enabled arch.new (M.state memory.new physical.new) output) ≡ Some (transferred (transfer Storing addressing encoded (flat_of enabled arch.old (M.state memory.old physical.old) output) i) (flat_of enabled arch.old (M.state memory.old physical.old) output))) }
+    ensures legal { (output : List ℕ) → is_some result ≡ (not (is_illegal i (setting_at (flat_of arch.old (M.state memory.old physical.old) output) i))) }
+    ensures illegal { result ≡ None → (output : List ℕ) → flat_of arch.new (M.state memory.new physical.new) output ≡ flat_of arch.old (M.state memory.old physical.old) output }
+    ensures performed { IfSome result (λ p. (output : List ℕ) → outcome_of p last.new (flat_of arch.new (M.state memory.new physical.new) output) ≡ Some (transferred (transfer Storing addressing encoded (flat_of arch.old (M.state memory.old physical.old) output) i) (flat_of arch.old (M.state memory.old physical.old) output))) }
 {
     transfer_legal(
-        enabled,
         kept,
         arch,
+        last,
         memory,
         physical,
         Direction::Storing,

@@ -1,4 +1,3 @@
-use vx_base::Fault;
 use vx_decode::Known;
 use vx_rows::Class;
 
@@ -9,8 +8,8 @@ pub enum Progress {
     Completed,
     /// It asks for a service, and nothing has changed.
     Asks,
-    /// It faulted.
-    Faulted(Fault),
+    /// It faulted; the executor tells how.
+    Faulted,
 }
 
 /// What stands at the pc.

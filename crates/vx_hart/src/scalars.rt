@@ -36,20 +36,21 @@ pub fn is_aligned(address: u64, width: u64) -> bool
     }
 }
 
-/// An instruction faults.
-pub fn fault(arch: &Arch, cause: u8, tval: u64) -> Progress
-    ensures { (enabled : Bool) (memory : FlatMemory) (output : List ℕ) → outcome_of result (flat_of enabled arch.now memory output) ≡ Some (faulted (flat_of enabled arch.now memory output) cause tval) }
+/// An instruction faults, and that is the last fault from now on.
+pub fn fault(arch: &Arch, last: &mut Fault, cause: u8, tval: u64) -> Progress
+    ensures { (memory : FlatMemory) (output : List ℕ) → outcome_of result last.new (flat_of arch.now memory output) ≡ Some (faulted (flat_of arch.now memory output) cause tval) }
 {
-    Progress::Faulted(Fault {
+    *last = Fault {
         cause,
         tval,
         vstart: arch.v.vstart(),
-    })
+    };
+    Progress::Faulted
 }
 
 /// An instruction has completed, and the pc moves on.
 pub fn complete(arch: &mut Arch) -> Progress
-    ensures { (enabled : Bool) (memory : FlatMemory) (output : List ℕ) → outcome_of result (flat_of enabled arch.new memory output) ≡ Some (Next (record (flat_of enabled arch.old memory output) { pc = following (flat_of enabled arch.old memory output) })) }
+    ensures { (fault : Fault) (memory : FlatMemory) (output : List ℕ) → outcome_of result fault (flat_of arch.new memory output) ≡ Some (Next (record (flat_of arch.old memory output) { pc = following (flat_of arch.old memory output) })) }
 {
     let pc = arch.pc.wrapping_add(4);
     go_on(arch, pc)
@@ -58,26 +59,26 @@ pub fn complete(arch: &mut Arch) -> Progress
 /// An instruction has completed, and the process goes on at a pc.
 fn go_on(arch: &mut Arch, pc: u64) -> Progress
     requires aligned { pc % 4 ≡ 0 }
-    ensures { (enabled : Bool) (memory : FlatMemory) (output : List ℕ) → outcome_of result (flat_of enabled arch.new memory output) ≡ Some (Next (record (flat_of enabled arch.old memory output) { pc = pc })) }
+    ensures { (fault : Fault) (memory : FlatMemory) (output : List ℕ) → outcome_of result fault (flat_of arch.new memory output) ≡ Some (Next (record (flat_of arch.old memory output) { pc = pc })) }
 {
     arch.pc = pc;
     Progress::Completed
 }
 
 /// Does an instruction that touches no memory.
-pub fn affect(arch: &mut Arch, i: Instr) -> Progress
+pub fn affect(arch: &mut Arch, last: &mut Fault, i: Instr) -> Progress
     requires registers { NamesRegisters i }
-    ensures { (enabled : Bool) (memory : FlatMemory) (output : List ℕ) → outcome_of result (flat_of enabled arch.new memory output) ≡ Some (affect (flat_of enabled arch.old memory output) i) }
+    ensures { (memory : FlatMemory) (output : List ℕ) → outcome_of result last.new (flat_of arch.new memory output) ≡ Some (affect (flat_of arch.old memory output) i) }
 {
     let effect = scalar(&i, &arch.regs, arch.pc);
-    take(arch, i.rd, effect)
+    take(arch, last, i.rd, effect)
 }
 
 /// Takes the effect of an instruction with this destination.
-fn take(arch: &mut Arch, rd: u8, effect: Effect) -> Progress
+fn take(arch: &mut Arch, last: &mut Fault, rd: u8, effect: Effect) -> Progress
     requires register { rd < 32 }
     requires aligned { IsAligned effect }
-    ensures { (enabled : Bool) (memory : FlatMemory) (output : List ℕ) → outcome_of result (flat_of enabled arch.new memory output) ≡ Some (affected (flat_of enabled arch.old memory output) rd effect) }
+    ensures { (memory : FlatMemory) (output : List ℕ) → outcome_of result last.new (flat_of arch.new memory output) ≡ Some (affected (flat_of arch.old memory output) rd effect) }
 {
     match effect {
         Effect::Value(value, pc) => {
@@ -85,7 +86,7 @@ fn take(arch: &mut Arch, rd: u8, effect: Effect) -> Progress
             go_on(arch, pc)
         }
         Effect::Next(pc) => go_on(arch, pc),
-        Effect::Misaligned(target) => fault(arch, 0, target),
+        Effect::Misaligned(target) => fault(arch, last, 0, target),
     }
 }
 
@@ -93,6 +94,7 @@ fn take(arch: &mut Arch, rd: u8, effect: Effect) -> Progress
 #[inline(always)]
 pub fn load<P, M: Memory<P>>(
     arch: &mut Arch,
+    last: &mut Fault,
     memory: &mut M,
     physical: &mut P,
     i: Instr,
@@ -101,25 +103,58 @@ pub fn load<P, M: Memory<P>>(
     requires fits { M.fits memory.old physical.old }
     ensures fits { M.fits memory.new physical.new }
     ensures rest { M.rest memory.new physical.new ≡ M.rest memory.old physical.old }
-    ensures loaded { (enabled : Bool) (output : List ℕ) → outcome_of result (flat_of enabled arch.new (M.state memory.new physical.new) output) ≡ Some (load (flat_of enabled arch.old (M.state memory.old physical.old) output) i) }
+    ensures loaded { (output : List ℕ) → outcome_of result last.new (flat_of arch.new (M.state memory.new physical.new) output) ≡ Some (load (flat_of arch.old (M.state memory.old physical.old) output) i) }
 {
     let address = scalar_address(&i, &arch.regs);
     match i.op {
         Op::Scalar(ScalarOp::Lb) => {
-            load_by_op(arch, memory, physical, i, Op::Scalar(ScalarOp::Lb), address)
+            load_by_op(
+                arch,
+                last,
+                memory,
+                physical,
+                i,
+                Op::Scalar(ScalarOp::Lb),
+                address,
+            )
         }
         Op::Scalar(ScalarOp::Lh) => {
-            load_by_op(arch, memory, physical, i, Op::Scalar(ScalarOp::Lh), address)
+            load_by_op(
+                arch,
+                last,
+                memory,
+                physical,
+                i,
+                Op::Scalar(ScalarOp::Lh),
+                address,
+            )
         }
         Op::Scalar(ScalarOp::Lw) => {
-            load_by_op(arch, memory, physical, i, Op::Scalar(ScalarOp::Lw), address)
+            load_by_op(
+                arch,
+                last,
+                memory,
+                physical,
+                i,
+                Op::Scalar(ScalarOp::Lw),
+                address,
+            )
         }
         Op::Scalar(ScalarOp::Ld) => {
-            load_by_op(arch, memory, physical, i, Op::Scalar(ScalarOp::Ld), address)
+            load_by_op(
+                arch,
+                last,
+                memory,
+                physical,
+                i,
+                Op::Scalar(ScalarOp::Ld),
+                address,
+            )
         }
         Op::Scalar(ScalarOp::Lbu) => {
             load_by_op(
                 arch,
+                last,
                 memory,
                 physical,
                 i,
@@ -130,6 +165,7 @@ pub fn load<P, M: Memory<P>>(
         Op::Scalar(ScalarOp::Lhu) => {
             load_by_op(
                 arch,
+                last,
                 memory,
                 physical,
                 i,
@@ -140,6 +176,7 @@ pub fn load<P, M: Memory<P>>(
         Op::Scalar(ScalarOp::Lwu) => {
             load_by_op(
                 arch,
+                last,
                 memory,
                 physical,
                 i,
@@ -147,7 +184,7 @@ pub fn load<P, M: Memory<P>>(
                 address,
             )
         }
-        _ => load_by_op(arch, memory, physical, i, i.op, address),
+        _ => load_by_op(arch, last, memory, physical, i, i.op, address),
     }
 }
 
@@ -155,6 +192,7 @@ pub fn load<P, M: Memory<P>>(
 #[inline(always)]
 fn load_by_op<P, M: Memory<P>>(
     arch: &mut Arch,
+    last: &mut Fault,
     memory: &mut M,
     physical: &mut P,
     i: Instr,
@@ -166,13 +204,13 @@ fn load_by_op<P, M: Memory<P>>(
     requires fits { M.fits memory.old physical.old }
     ensures fits { M.fits memory.new physical.new }
     ensures rest { M.rest memory.new physical.new ≡ M.rest memory.old physical.old }
-    ensures loaded { (enabled : Bool) (output : List ℕ) → outcome_of result (flat_of enabled arch.new (M.state memory.new physical.new) output) ≡ Some (load_from (flat_of enabled arch.old (M.state memory.old physical.old) output) i address (access_width i.op)) }
+    ensures loaded { (output : List ℕ) → outcome_of result last.new (flat_of arch.new (M.state memory.new physical.new) output) ≡ Some (load_from (flat_of arch.old (M.state memory.old physical.old) output) i address (access_width i.op)) }
 {
     let width = access_width(op);
     if is_aligned(address, width) {
-        load_aligned(arch, memory, physical, i, op, address, width)
+        load_aligned(arch, last, memory, physical, i, op, address, width)
     } else {
-        fault(arch, 4, address)
+        fault(arch, last, 4, address)
     }
 }
 
@@ -180,6 +218,7 @@ fn load_by_op<P, M: Memory<P>>(
 #[inline(always)]
 fn load_aligned<P, M: Memory<P>>(
     arch: &mut Arch,
+    last: &mut Fault,
     memory: &mut M,
     physical: &mut P,
     i: Instr,
@@ -194,14 +233,14 @@ fn load_aligned<P, M: Memory<P>>(
     requires fits { M.fits memory.old physical.old }
     ensures fits { M.fits memory.new physical.new }
     ensures rest { M.rest memory.new physical.new ≡ M.rest memory.old physical.old }
-    ensures loaded { (enabled : Bool) (output : List ℕ) → outcome_of result (flat_of enabled arch.new (M.state memory.new physical.new) output) ≡ Some (load_from (flat_of enabled arch.old (M.state memory.old physical.old) output) i address width) }
+    ensures loaded { (output : List ℕ) → outcome_of result last.new (flat_of arch.new (M.state memory.new physical.new) output) ≡ Some (load_from (flat_of arch.old (M.state memory.old physical.old) output) i address width) }
 {
     match memory.load(physical, address, width) {
         Some(n) => {
             arch.regs.write(i.rd, loaded(op, n));
             complete(arch)
         }
-        None => fault(arch, 13, address),
+        None => fault(arch, last, 13, address),
     }
 }
 
@@ -209,6 +248,7 @@ fn load_aligned<P, M: Memory<P>>(
 #[inline(always)]
 pub fn store<P, M: Memory<P>>(
     arch: &mut Arch,
+    last: &mut Fault,
     memory: &mut M,
     physical: &mut P,
     i: Instr,
@@ -217,7 +257,7 @@ pub fn store<P, M: Memory<P>>(
     requires fits { M.fits memory.old physical.old }
     ensures fits { M.fits memory.new physical.new }
     ensures rest { M.rest memory.new physical.new ≡ M.rest memory.old physical.old }
-    ensures stored { (enabled : Bool) (output : List ℕ) → outcome_of result (flat_of enabled arch.new (M.state memory.new physical.new) output) ≡ Some (store (flat_of enabled arch.old (M.state memory.old physical.old) output) i) }
+    ensures stored { (output : List ℕ) → outcome_of result last.new (flat_of arch.new (M.state memory.new physical.new) output) ≡ Some (store (flat_of arch.old (M.state memory.old physical.old) output) i) }
 {
     let address = scalar_address(&i, &arch.regs);
     let value = arch.regs.read(i.rs2);
@@ -225,6 +265,7 @@ pub fn store<P, M: Memory<P>>(
         Op::Scalar(ScalarOp::Sb) => {
             store_by_op(
                 arch,
+                last,
                 memory,
                 physical,
                 Op::Scalar(ScalarOp::Sb),
@@ -235,6 +276,7 @@ pub fn store<P, M: Memory<P>>(
         Op::Scalar(ScalarOp::Sh) => {
             store_by_op(
                 arch,
+                last,
                 memory,
                 physical,
                 Op::Scalar(ScalarOp::Sh),
@@ -245,6 +287,7 @@ pub fn store<P, M: Memory<P>>(
         Op::Scalar(ScalarOp::Sw) => {
             store_by_op(
                 arch,
+                last,
                 memory,
                 physical,
                 Op::Scalar(ScalarOp::Sw),
@@ -255,6 +298,7 @@ pub fn store<P, M: Memory<P>>(
         Op::Scalar(ScalarOp::Sd) => {
             store_by_op(
                 arch,
+                last,
                 memory,
                 physical,
                 Op::Scalar(ScalarOp::Sd),
@@ -262,7 +306,7 @@ pub fn store<P, M: Memory<P>>(
                 value,
             )
         }
-        _ => store_by_op(arch, memory, physical, i.op, address, value),
+        _ => store_by_op(arch, last, memory, physical, i.op, address, value),
     }
 }
 
@@ -270,6 +314,7 @@ pub fn store<P, M: Memory<P>>(
 #[inline(always)]
 fn store_by_op<P, M: Memory<P>>(
     arch: &mut Arch,
+    last: &mut Fault,
     memory: &mut M,
     physical: &mut P,
     op: Op,
@@ -279,13 +324,13 @@ fn store_by_op<P, M: Memory<P>>(
     requires fits { M.fits memory.old physical.old }
     ensures fits { M.fits memory.new physical.new }
     ensures rest { M.rest memory.new physical.new ≡ M.rest memory.old physical.old }
-    ensures stored { (enabled : Bool) (output : List ℕ) → outcome_of result (flat_of enabled arch.new (M.state memory.new physical.new) output) ≡ Some (store_at (flat_of enabled arch.old (M.state memory.old physical.old) output) address (access_width op) value) }
+    ensures stored { (output : List ℕ) → outcome_of result last.new (flat_of arch.new (M.state memory.new physical.new) output) ≡ Some (store_at (flat_of arch.old (M.state memory.old physical.old) output) address (access_width op) value) }
 {
     let width = access_width(op);
     if is_aligned(address, width) {
-        store_aligned(arch, memory, physical, address, width, value)
+        store_aligned(arch, last, memory, physical, address, width, value)
     } else {
-        fault(arch, 6, address)
+        fault(arch, last, 6, address)
     }
 }
 
@@ -293,6 +338,7 @@ fn store_by_op<P, M: Memory<P>>(
 #[inline(always)]
 fn store_aligned<P, M: Memory<P>>(
     arch: &mut Arch,
+    last: &mut Fault,
     memory: &mut M,
     physical: &mut P,
     address: u64,
@@ -304,11 +350,11 @@ fn store_aligned<P, M: Memory<P>>(
     requires fits { M.fits memory.old physical.old }
     ensures fits { M.fits memory.new physical.new }
     ensures rest { M.rest memory.new physical.new ≡ M.rest memory.old physical.old }
-    ensures stored { (enabled : Bool) (output : List ℕ) → outcome_of result (flat_of enabled arch.new (M.state memory.new physical.new) output) ≡ Some (store_at (flat_of enabled arch.old (M.state memory.old physical.old) output) address width value) }
+    ensures stored { (output : List ℕ) → outcome_of result last.new (flat_of arch.new (M.state memory.new physical.new) output) ≡ Some (store_at (flat_of arch.old (M.state memory.old physical.old) output) address width value) }
 {
     if memory.store(physical, address, width, value) {
         complete(arch)
     } else {
-        fault(arch, 15, address)
+        fault(arch, last, 15, address)
     }
 }

@@ -69,8 +69,8 @@ fn answer<P, M: Memory<P>>(
     ensures fits { M.fits memory.new physical.new }
     ensures rest { M.rest memory.new physical.new ≡ M.rest memory.old physical.old }
     ensures memory { M.state memory.new physical.new ≡ M.state memory.old physical.old }
-    ensures value { (enabled : Bool) → result ≡ (service (flat_of enabled arch.now (M.state memory.old physical.old) output.old.items) number).value }
-    ensures written { (enabled : Bool) → output.new.items ≡ output.old.items ++ (service (flat_of enabled arch.now (M.state memory.old physical.old) output.old.items) number).written }
+    ensures value { result ≡ (service (flat_of arch.now (M.state memory.old physical.old) output.old.items) number).value }
+    ensures written { output.new.items ≡ output.old.items ++ (service (flat_of arch.now (M.state memory.old physical.old) output.old.items) number).written }
     ensures still_reserved { 2 ^ 20 ≤ vec_capacity output.new }
     ensures still_within { vec_len output.new ≤ 2 ^ 20 }
 {
@@ -97,8 +97,8 @@ fn serve_other<P, M: Memory<P>>(
     requires fits { M.fits memory.old physical.old }
     ensures fits { M.fits memory.new physical.new }
     ensures rest { M.rest memory.new physical.new ≡ M.rest memory.old physical.old }
-    ensures answered { (enabled : Bool) → let s = flat_of enabled arch.old (M.state memory.old physical.old) output.old.items in
-        flat_of enabled arch.new (M.state memory.new physical.new) output.new.items ≡ answered s (service s number) }
+    ensures answered { let s = flat_of arch.old (M.state memory.old physical.old) output.old.items in
+        flat_of arch.new (M.state memory.new physical.new) output.new.items ≡ answered s (service s number) }
     ensures still_reserved { 2 ^ 20 ≤ vec_capacity output.new }
     ensures still_within { vec_len output.new ≤ 2 ^ 20 }
 {
@@ -120,8 +120,8 @@ pub fn serve<P, M: Memory<P>>(
     requires fits { M.fits memory.old physical.old }
     ensures fits { M.fits memory.new physical.new }
     ensures rest { M.rest memory.new physical.new ≡ M.rest memory.old physical.old }
-    ensures served { (enabled : Bool) → served result (flat_of enabled arch.new (M.state memory.new physical.new) output.new.items) ≡ ecall (flat_of enabled arch.old (M.state memory.old physical.old) output.old.items) }
-    ensures exits { IfSome result (λ code. (enabled : Bool) → flat_of enabled arch.new (M.state memory.new physical.new) output.new.items ≡ flat_of enabled arch.old (M.state memory.old physical.old) output.old.items) }
+    ensures served { served result (flat_of arch.new (M.state memory.new physical.new) output.new.items) ≡ ecall (flat_of arch.old (M.state memory.old physical.old) output.old.items) }
+    ensures exits { IfSome result (λ code. flat_of arch.new (M.state memory.new physical.new) output.new.items ≡ flat_of arch.old (M.state memory.old physical.old) output.old.items) }
     ensures still_reserved { 2 ^ 20 ≤ vec_capacity output.new }
     ensures still_within { vec_len output.new ≤ 2 ^ 20 }
 {

@@ -19,7 +19,7 @@ returns c =
     let v = c.args.arch.now.v in
     let executable : IsExecutable i at = is-executable i at c.args.family c.requires.valid c.requires.class c.requires.accepted in
     let r = reads i at v.words in
-    λ enabled memory output.
-    let s : Flat = flat_of enabled c.args.arch.now memory output in
+    λ fault memory output.
+    let s : Flat = flat_of c.args.arch.now memory output in
     let reading : reading_at s i ≡ Some r = reads-at i v (slice_index c.args.arch.now.regs.x i.rs1) at r c.requires.setting (c.instructions_read.ensures i at v.words executable) in
-    is-calculated s i r (outcome_of c.complete.result (flat_of enabled c.complete.new.arch memory output)) c.put_told.new.regs.x c.execute-told.new.v c.execute-told.result reading c.execute-told.ensures.told c.put_told.ensures c.execute-told.ensures.done (c.complete.ensures enabled memory output)
+    is-calculated s i r (outcome_of c.complete.result fault (flat_of c.complete.new.arch memory output)) c.put_told.new.regs.x c.execute-told.new.v c.execute-told.result reading c.execute-told.ensures.told c.put_told.ensures c.execute-told.ensures.done (c.complete.ensures fault memory output)

@@ -15,5 +15,5 @@ returns-clause-addressing c = ap (λ (m : Movement). m.addressing) (c.new-patter
 
 pub returns-clause-same : goal.returns-clause-same
 returns-clause-same c direction memory output =
-    transfers-same direction (flat_of c.args.enabled c.args.arch.now memory output) c.args.i.now c.args.addressing c.args.encoded c.new-pattern.result c.setting-at.result c.read-base.result c.read-stride.result
+    transfers-same direction (flat_of c.args.arch.now memory output) c.args.i.now c.args.addressing c.args.encoded c.new-pattern.result c.setting-at.result c.read-base.result c.read-stride.result
     c.read-base.ensures c.read-stride.ensures c.setting-at.ensures c.new-pattern.ensures

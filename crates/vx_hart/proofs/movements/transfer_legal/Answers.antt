@@ -14,6 +14,6 @@ returns-clause-legal g c output = c.in-Some.ensures.legal (g.M.Memory.state c.ar
 
 pub returns-clause-performed : goal.returns-clause-performed
 returns-clause-performed g c output =
-    let old : Flat = flat_of c.args.enabled c.args.arch.now (g.M.Memory.state c.args.memory.now c.args.physical.now) output in
-    c.transfer.ensures.done c.args.enabled output
+    let old : Flat = flat_of c.args.arch.now (g.M.Memory.state c.args.memory.now c.args.physical.now) output in
+    c.transfer.ensures.done output
     ∙ ap (λ (t : Transfer). Some (transferred t old)) (c.in-Some.ensures.same (direction_of c.args.direction) (g.M.Memory.state c.args.memory.now c.args.physical.now) output)

@@ -8,7 +8,7 @@ use Rattle.vx_hart.proofs.Written.{ecall-other}
 use Rattle.vx_hart.proofs.service.serve.Goals as goal
 
 pub returns-clause-served : goal.returns-clause-served
-returns-clause-served g c enabled =
-    let s : Flat = flat_of enabled c.args.arch.now (g.M.Memory.state c.args.memory.now c.args.physical.now) c.args.output.now.items in
+returns-clause-served g c =
+    let s : Flat = flat_of c.args.arch.now (g.M.Memory.state c.args.memory.now c.args.physical.now) c.args.output.now.items in
     let other : (c.read-number.result == 93) ≡ false = grind (arith, nat_tests, c.if-number-eq93.false) in
-    ap Next (c.serve_other.ensures.answered enabled) ∙ ecall-other s c.read-number.result c.read-number.ensures other
+    ap Next (c.serve_other.ensures.answered) ∙ ecall-other s c.read-number.result c.read-number.ensures other
