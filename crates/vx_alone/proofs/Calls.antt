@@ -3,6 +3,7 @@ use Rattle.std.proofs.Common.{◌≡◌, Bool, Option, None, Some, IfSome, true,
 use Rattle.std.specs.Prelude.{ℤ}
 use Rattle.std.proofs.lemmas.Bool.{false≢true}
 use Rattle.std.proofs.lemmas.Option.{none-some}
+use Rattle.vx_base.specs.declared.machine.Fault.{Fault}
 use Rattle.vx_decode.specs.declared.instr.Instr.{Instr}
 use Rattle.vx_rows.specs.Table.{class_of}
 use Rattle.vx_rows.specs.declared.row.Class.{Class}
@@ -41,15 +42,15 @@ abbrev after_some : Process → Option Outcome → Process
 after_some p None = p
 after_some p (Some o) = after p o
 
-settles : (progress : Progress) (p : Process) (s : Flat) (o : Outcome) → outcome_of progress s ≡ Some o → settled progress (record p { state = s }) ≡ after_some p (outcome_of progress s)
-settles Completed p s o e = refl
-settles Asks p s o e = absurd (none-some o e)
-settles (Faulted fault) p s o e = refl
+settles : (progress : Progress) (f : Fault) (p : Process) (s : Flat) (o : Outcome) → outcome_of progress f s ≡ Some o → settled progress f (record p { state = s }) ≡ after_some p (outcome_of progress f s)
+settles Completed f p s o e = refl
+settles Asks f p s o e = absurd (none-some o e)
+settles Faulted f p s o e = refl
 
-settled-asks : (progress : Progress) (p : Process) (s : Flat) → outcome_of progress s ≡ None → s ≡ p.state → settled progress (record p { state = s }) ≡ p
-settled-asks Completed p s e same = absurd (none-some _ (sym e))
-settled-asks Asks p s e same = ap (λ (t : Flat). record p { state = t }) same
-settled-asks (Faulted fault) p s e same = absurd (none-some _ (sym e))
+settled-asks : (progress : Progress) (f : Fault) (p : Process) (s : Flat) → outcome_of progress f s ≡ None → s ≡ p.state → settled progress f (record p { state = s }) ≡ p
+settled-asks Completed f p s e same = absurd (none-some _ (sym e))
+settled-asks Asks f p s e same = ap (λ (t : Flat). record p { state = t }) same
+settled-asks Faulted f p s e same = absurd (none-some _ (sym e))
 
 next-by : (b : Bool) (s : Flat) (u : Upcoming) → is_service u ≡ b → outcome_next s u ≡ (if b then None else Some (performed s u))
 next-by b s u e = ap (λ (a : Bool). if a then None else Some (performed s u)) e
@@ -57,23 +58,19 @@ next-by b s u e = ap (λ (a : Bool). if a then None else Some (performed s u)) e
 service-by : (s : Flat) (c : Option Class) (b : Bool) → c ≡ class_next (upcoming s) → asks c ≡ b → is_service (upcoming s) ≡ b
 service-by s c b is e = ap asks (sym is) ∙ e
 
-pub advanced : (p q : Process) (progress : Progress) (c : Option Class) (s : Flat) → q ≡ p → p.over ≡ None → c ≡ class_next (upcoming q.state) → outcome_of progress s ≡ outcome_next q.state (upcoming q.state) → asks c ≡ false → settled progress (record q { state = s }) ≡ stepped p
-advanced p q progress c s same running is done goes =
-    let e : outcome_of progress s ≡ Some (performed q.state (upcoming q.state)) = done ∙ next-by false q.state (upcoming q.state) (service-by q.state c false is goes) in
-    settles progress q s (performed q.state (upcoming q.state)) e
+pub advanced : (p q : Process) (progress : Progress) (f : Fault) (c : Option Class) (s : Flat) → q ≡ p → p.over ≡ None → c ≡ class_next (upcoming q.state) → outcome_of progress f s ≡ outcome_next q.state (upcoming q.state) → asks c ≡ false → settled progress f (record q { state = s }) ≡ stepped p
+advanced p q progress f c s same running is done goes =
+    let e : outcome_of progress f s ≡ Some (performed q.state (upcoming q.state)) = done ∙ next-by false q.state (upcoming q.state) (service-by q.state c false is goes) in
+    settles progress f q s (performed q.state (upcoming q.state)) e
     ∙ ap (after_some q) e
     ∙ ap (λ (r : Process). after r (step r.state)) same
     ∙ sym (stepped-is p running)
 
-pub waited : (p q : Process) (progress : Progress) (c : Option Class) (s : Flat) → q ≡ p → c ≡ class_next (upcoming q.state) → outcome_of progress s ≡ outcome_next q.state (upcoming q.state) → s ≡ q.state → asks c ≡ true → settled progress (record q { state = s }) ≡ p
-waited p q progress c s same is done left waits =
-    settled-asks progress q s (done ∙ next-by true q.state (upcoming q.state) (service-by q.state c true is waits)) left ∙ same
+pub waited : (p q : Process) (progress : Progress) (f : Fault) (c : Option Class) (s : Flat) → q ≡ p → c ≡ class_next (upcoming q.state) → outcome_of progress f s ≡ outcome_next q.state (upcoming q.state) → s ≡ q.state → asks c ≡ true → settled progress f (record q { state = s }) ≡ p
+waited p q progress f c s same is done left waits =
+    settled-asks progress f q s (done ∙ next-by true q.state (upcoming q.state) (service-by q.state c true is waits)) left ∙ same
 
 -- ---- a service
-
-pub at-once : (code : Option ℤ) (old new : Bool → Flat) (e : Bool) → IfSome code (λ (n : ℤ). (a : Bool) → new a ≡ old a) → IfSome code (λ (n : ℤ). new e ≡ old e)
-at-once None old new e h = tt
-at-once (Some n) old new e h = h e
 
 by_code : (code : Option ℤ) (q : Process) (s : Flat) → IfSome code (λ (n : ℤ). s ≡ q.state) → settled_service code (record q { state = s }) ≡ after q (served code s)
 by_code None q s left = refl

@@ -1,10 +1,11 @@
 ghost use Rattle.std.specs.Prelude.{◌≡◌, ◌≤◌, ◌^◌, length, true, false, None, IfOk, IsTrue};
-ghost use Rattle.vx_alone.specs.Settled.{settled, settled_service};
+ghost use Rattle.vx_alone.specs.Settled.{process_of, settled, settled_service};
 ghost use Rattle.vx_alone.specs.Turns.{turn_of};
 ghost use Rattle.vx_base.specs.Options.{is_register_length};
 ghost use Rattle.vx_flat.specs.Process.{begun, stepped};
+ghost use Rattle.vx_flat.specs.State.{Flat};
 ghost use Rattle.vx_flat.specs.Step.{upcoming};
-ghost use Rattle.vx_hart.specs.Asking.{asks, class_next, is_service};
+ghost use Rattle.vx_hart.specs.Asking.{is_service};
 
 use crate::memory::Memory;
 use crate::turn::Turn;
@@ -13,7 +14,6 @@ use std::marker::Model;
 use vx_flat::{End, Hart};
 use vx_hart::{Arch, Executor, Progress, asks, serve};
 use vx_image::Image;
-use vx_rows::Class;
 use vx_scalar::Regs;
 use vx_vstate::VState;
 
@@ -39,7 +39,6 @@ impl Model for Alone {
         pc = m.arch.pc;
         x = m.arch.regs.x;
         v = m.arch.v;
-        vectors_enabled = m.executor;
         memory = m.memory;
         output = m.output.items;
       };
@@ -55,16 +54,12 @@ impl Alone {
     /// the run here.
     pub fn boot(alloc: Global, image: &Image, vlen: u32) -> Result<Alone, AllocError>
         requires { IsTrue (is_register_length vlen) }
-        ensures { IfOk result (λ m. m ≡ begun (record { vlen = vlen; vectors_enabled = true }) image.now) }
+        ensures { IfOk result (λ m. m ≡ begun (record { vlen = vlen }) image.now) }
     {
-        let hart = Hart {
-            vlen,
-            vectors_enabled: true,
-        };
-        Alone::boot_on(alloc, image, hart)
+        Alone::boot_on(alloc, image, Hart { vlen })
     }
 
-    /// The same on a hart, whose vector instructions may not be enabled.
+    /// The same on a hart.
     #[tactic(auto, unfolding(vx_flat::specs::Boot::booted))]
     pub fn boot_on(alloc: Global, image: &Image, hart: Hart) -> Result<Alone, AllocError>
         requires { IsTrue (is_register_length hart.vlen) }
@@ -77,7 +72,7 @@ impl Alone {
         };
         Ok(Alone {
             arch,
-            executor: Executor::new(alloc, hart.vectors_enabled)?,
+            executor: Executor::new(alloc)?,
             memory: Memory::of(alloc, image)?,
             output: Vec::with_capacity(alloc, 1 << 20)?,
             count: 0,
@@ -85,31 +80,25 @@ impl Alone {
         })
     }
 
-    /// Does what stands at the pc, in a machine that isn't over, unless it asks for a service: `serve` does that. Gives the
-    /// class of what stands there, where it is an instruction that is executed.
+    /// Does what stands at the pc, in a machine that isn't over, unless it asks for a service: `serve` does that. Tells whether
+    /// it asks.
     #[inline(never)]
-    pub fn advance(&mut self) -> Option<Class>
+    pub fn advance(&mut self) -> bool
         requires running { self.old.over ≡ None }
-        ensures class { result ≡ class_next (upcoming self.old.state) }
-        ensures waits { asks result ≡ true → self.new ≡ self.old }
-        ensures stepped { asks result ≡ false → self.new ≡ stepped self.old }
+        ensures asks { result ≡ is_service (upcoming self.old.state) }
+        ensures waits { result ≡ true → self.new ≡ self.old }
+        ensures stepped { result ≡ false → self.new ≡ stepped self.old }
     {
         let step = self
             .executor
             .advance(&mut self.arch, &mut self.memory, &mut ());
-        self.settle(step.progress);
-        step.class
-    }
-
-    /// Takes what became of its instruction into the count, or the end.
-    fn settle(&mut self, progress: Progress)
-        ensures { self.new ≡ settled progress self.old }
-    {
-        match progress {
-            Progress::Completed => self.count = self.count.saturating_add(1),
-            Progress::Asks => {}
-            Progress::Faulted(fault) => self.over = Some(End::Faulted(fault)),
-        }
+        settle(
+            &mut self.count,
+            &mut self.over,
+            &self.executor,
+            step.progress,
+        );
+        asks(step.class)
     }
 
     /// Does the service that what stands at the pc asks for.
@@ -139,8 +128,7 @@ impl Alone {
         requires running { self.old.over ≡ None }
         ensures stepped { self.new ≡ stepped self.old }
     {
-        let class = self.advance();
-        if asks(class) {
+        if self.advance() {
             self.serve();
         }
     }
@@ -197,5 +185,16 @@ impl Alone {
             Some(End::Exited(code)) => Turn::Exited(code),
             Some(End::Faulted(fault)) => Turn::Faulted(fault),
         }
+    }
+}
+
+/// Takes what became of an instruction into the count of its process, or into its end.
+fn settle(count: &mut u64, over: &mut Option<End>, executor: &Executor, progress: Progress)
+    ensures { (s : Flat) → process_of s count.new over.new ≡ settled progress executor.now (process_of s count.old over.old) }
+{
+    match progress {
+        Progress::Completed => *count = count.saturating_add(1),
+        Progress::Asks => {}
+        Progress::Faulted => *over = Some(End::Faulted(executor.fault())),
     }
 }

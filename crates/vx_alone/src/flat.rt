@@ -10,7 +10,7 @@ impl vx_hart::Memory<()> for Memory {
 
     ghost fits = { λ m p. Unit {0} };
 
-    ghost rest = { λ m p. record { frames = 0; cycle = 0; words = [] } };
+    ghost rest = { λ m p. record { frames = 0; cycle = 0; words = []; pages = []; places = [] } };
 
     #[inline(always)]
     fn word(&mut self, _physical: &mut (), address: u64) -> Option<u32> {

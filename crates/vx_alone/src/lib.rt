@@ -13,5 +13,5 @@ mod turn;
 pub use alone::Alone;
 pub use turn::Turn;
 pub use vx_flat::{End, Hart, Upcoming};
-pub use vx_hart::{Arch, asks};
+pub use vx_hart::Arch;
 pub use vx_scalar::Regs;
