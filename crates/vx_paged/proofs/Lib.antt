@@ -11,5 +11,6 @@ pub mod Shown
 pub mod Staying
 pub mod Stored
 pub mod Turns
+pub mod Walked
 pub mod Words
 pub mod Written

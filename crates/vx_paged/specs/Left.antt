@@ -1,9 +1,9 @@
 -- What the accesses of a process leave of physical memory. This project's own.
-use Rattle.std.specs.Prelude.{ℕ, ◌+◌, ◌/◌, Bool, ◌==◌, List, [], ◌∷◌, if◌then◌else◌}
+use Rattle.std.specs.Prelude.{ℕ, ◌+◌, ◌/◌, Bool, ◌==◌, List, [], ◌∷◌, map, if◌then◌else◌}
 use Rattle.std.specs.List.{list_any}
 use Rattle.vx_cells.specs.Cells.{CellsState, IsMemory}
 use Rattle.vx_hart.specs.Rest.{Rest}
-use Rattle.vx_paged.specs.Framed.{IsWithin}
+use Rattle.vx_paged.specs.Framed.{IsWithin, entries_of}
 use Rattle.vx_paged.specs.declared.placement.FramedPage.{FramedPage}
 
 -- a page is in the frame
@@ -17,7 +17,7 @@ blanked placement word (value ∷ values) = (if is_framed placement (word / 512)
 
 -- what is left of the cells
 abbrev pub rest_of : List FramedPage → CellsState → Rest
-rest_of placement cells = record { frames = cells.frames; cycle = cells.cycle; words = blanked placement 0 cells.contents }
+rest_of placement cells = record { frames = cells.frames; cycle = cells.cycle; words = blanked placement 0 cells.contents; pages = entries_of placement; places = map (λ (p : FramedPage). p.frame) placement }
 
 -- the cells have the pages' frames
 pub record Fits (placement : List FramedPage) (cells : CellsState) : Type 0 where

@@ -1,7 +1,8 @@
-ghost use Rattle.std.specs.Prelude.{◌≡◌, ℕ, ◌+◌, ◌/◌, ◌≤◌, false, List, Some, length, slice_index};
+ghost use Rattle.std.specs.Prelude.{◌≡◌, ◌≢◌, ℕ, Bool, ◌+◌, ◌/◌, ◌≤◌, false, List, Some, length, slice_index};
 ghost use Rattle.vx_base.specs.Pages.{IsPageList};
 ghost use Rattle.vx_base.specs.declared.perm.PageEntry.{PageEntry};
 ghost use Rattle.vx_cells.specs.Cells.{CellsState};
+ghost use Rattle.vx_episode.specs.History.{Walk, after_walks};
 ghost use Rattle.vx_episode.specs.Show.{Registers, Shows};
 ghost use Rattle.vx_flat.specs.State.{Flat};
 ghost use Rattle.vx_paged.specs.Framed.{IsPlacement, in_turn, shown};
@@ -9,8 +10,9 @@ ghost use Rattle.vx_paged.specs.Left.{is_framed, rest_of};
 ghost use Rattle.vx_paged.specs.Placed.{AreAlone, IsPlacedAs, IsWhole};
 ghost use Rattle.vx_paged.specs.declared.placement.FramedPage.{FramedPage};
 ghost use Rattle.vx_pending.specs.Alike.{AreAlike};
-ghost use Rattle.vx_tables.specs.Residency.{Residency, at_boot};
-ghost use Rattle.vx_tables.specs.Tables.{AreHeld};
+ghost use Rattle.vx_tables.specs.Residency.{Residency, PlacedPage, at_boot, pages_of, placed};
+ghost use Rattle.vx_tables.specs.Residency.Place.{Present};
+ghost use Rattle.vx_tables.specs.Tables.{AreHeld, SameBut, table_count};
 
 /// What is left as it was is each word outside of the pages' frames, and so are the page tables, where no page is in a frame of
 /// theirs.
@@ -36,4 +38,16 @@ pub fn shown_memory_is_alike()
 pub fn pages_are_placed_in_turn()
     ensures placed { (first : ℕ) (pages : List PageEntry) → IsPlacedAs (in_turn first pages) (at_boot (Some first) pages) }
     ensures placement { (first : ℕ) (pages : List PageEntry) → IsPageList pages → first + length pages ≤ 16384 → IsPlacement (in_turn first pages) }
+{}
+
+/// Walks leave each page in its frame, and the memory that is shown: they write the tables alone. A frame in which the residency has
+/// no page is none of the placement's. What is left as it was tells the placement.
+pub fn walks_leave_pages()
+    ensures placed { (placement : List FramedPage) (residency : Residency) (walks : List Walk) → IsPlacement placement → IsPlacedAs placement residency → IsPlacedAs placement (after_walks residency walks) }
+    ensures alone { (placement : List FramedPage) (first : ℕ) (residency : Residency) (walks : List Walk) → IsPlacement placement → IsPlacedAs placement residency → AreAlone first residency → AreAlone first (after_walks residency walks) }
+    ensures shown { (placement : List FramedPage) (first : ℕ) (residency : Residency) (before after : List ℕ) → IsPlacement placement → IsPlacedAs placement residency → AreAlone first residency
+        → SameBut first (table_count (pages_of residency)) before after → shown placement after ≡ shown placement before }
+    ensures elsewhere { (placement : List FramedPage) (residency : Residency) (frame : ℕ) → IsPlacement placement → IsPlacedAs placement residency
+        → ((number : ℕ) (p : PlacedPage) (accessed dirty : Bool) → placed number residency ≡ Some p → p.place ≢ Present frame accessed dirty) → is_framed placement frame ≡ false }
+    ensures same { (one other : List FramedPage) (before after : CellsState) → rest_of other after ≡ rest_of one before → other ≡ one }
 {}

@@ -12,6 +12,6 @@ mod paged;
 mod placement;
 
 pub use boot::{boot_pages, place_pages};
-pub use laws::{pages_are_placed_in_turn, shown_memory_is_alike, tables_stay};
+pub use laws::{pages_are_placed_in_turn, shown_memory_is_alike, tables_stay, walks_leave_pages};
 pub use paged::Paged;
 pub use placement::{FramedPage, Placement};

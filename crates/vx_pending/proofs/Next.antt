@@ -1,8 +1,8 @@
 -- What comes next is the same from a memory that differs in pending bytes alone, and so are the pending bytes.
-use Rattle.std.proofs.Common.{◌≡◌, ℕ, ◌+◌, ◌*◌, ◌/◌, ◌%◌, ◌<◌, ◌≤◌, Bool, true, false, not, ◌&&◌, ◌||◌, nat_eq, length, if◌then◌else◌, refl, sym, ap, ◌∙◌, inr, arith}
+use Rattle.std.proofs.Common.{◌≡◌, ℕ, ◌+◌, ◌*◌, ◌/◌, ◌%◌, ◌<◌, ◌≤◌, Bool, true, false, not, ◌||◌, nat_eq, length, if◌then◌else◌, refl, sym, ap, ◌∙◌, inr, arith}
 use Rattle.std.specs.List.{All, filter, list_any}
 use Rattle.std.specs.Prelude.{Option, Some, None, is_none, map}
-use Rattle.std.proofs.lemmas.Bool.{false≢true, true≢false, and_parts, not-true}
+use Rattle.std.proofs.lemmas.Bool.{false≢true, true≢false, not-true}
 use Rattle.vx_base.specs.Numbers.{from_little_endian}
 use Rattle.vx_base.specs.declared.machine.Want.{Want}
 use Rattle.vx_base.specs.declared.machine.Want.TheVariants.{Fetch, Store}
@@ -30,7 +30,7 @@ use Rattle.vx_flat.specs.Checks.{cause_of, misaligned, page_fault}
 use Rattle.vx_flat.specs.Memory.{number_at}
 use Rattle.vx_flat.specs.Splits.{IsWellFormed}
 use Rattle.vx_flat.specs.State.{Flat}
-use Rattle.vx_flat.specs.Step.{upcoming, meaning, is_legal, is_legal_as, is_executed, word_at_pc}
+use Rattle.vx_flat.specs.Step.{upcoming, meaning, is_legal, is_legal_as, word_at_pc}
 use Rattle.vx_flat.specs.Transfers.{transfer}
 use Rattle.vx_flat.specs.Transfers.Direction.{Storing}
 use Rattle.vx_flat.specs.Vectors.{setting_at}
@@ -105,12 +105,12 @@ pub all-wide : (L : Laws) (a : Addressing) (e : Eew) (s : Flat) (i : Instr) → 
 all-wide L a e s i w h q from to =
     let m = (transfer Storing a e s i).movement in
     let next = next-parts s i h in
-    let legal : (is_executed s.vectors_enabled (VectorStore a e) && not (is_illegal i (setting_at s i))) ≡ true = ap (λ c. is_executed s.vectors_enabled c && is_legal_as c s i) (sym q) ∙ next.legal in
+    let legal : not (is_illegal i (setting_at s i)) ≡ true = ap (λ c. is_legal_as c s i) (sym q) ∙ next.legal in
     let sound = L.sound m (record {
       setting = setting-in-range s i w.vectors;
       valid = L.valid (word_at_pc s) i next.word;
       row = inr q;
-      legal = not-true (is_illegal i (setting_at s i)) (and_parts (is_executed s.vectors_enabled (VectorStore a e)) (not (is_illegal i (setting_at s i))) legal).1;
+      legal = not-true (is_illegal i (setting_at s i)) legal;
     }) w.vectors.words_in_all in
     between_all Wide m from to (λ x f low high start inside. whole-bytes (access_bits m) sound.width)
 
@@ -175,7 +175,7 @@ legal-as k s m i = refl
 
 meaning-alike : (s : Flat) (m : Memory) (word : ℕ) (o : Option Instr) → meaning (with_memory m s) word o ≡ meaning s word o
 meaning-alike s m word None = refl
-meaning-alike s m word (Some i) = ap (λ b. if is_executed s.vectors_enabled (class_of i.op) && b then Instruction i else Illegal word) (legal-as (class_of i.op) s m i)
+meaning-alike s m word (Some i) = ap (λ b. if b then Instruction i else Illegal word) (legal-as (class_of i.op) s m i)
 
 module _ (L : Laws) (s : Flat) (m : Memory) (w : IsWellFormed s) (alike : AreAlike s m) where
   pub word-alike : permits s.memory s.pc Fetch ≡ true → word_at_pc (with_memory m s) ≡ word_at_pc s

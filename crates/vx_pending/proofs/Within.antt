@@ -27,7 +27,7 @@ use Rattle.vx_vector.specs.Accesses.{Access, Movement, accesses_between, movemen
 use Rattle.vx_flat.specs.Checks.{misaligned, page_fault}
 use Rattle.vx_flat.specs.Splits.{IsWellFormed}
 use Rattle.vx_flat.specs.State.{Flat, at_element, completed}
-use Rattle.vx_flat.specs.Step.{upcoming, is_legal, is_legal_as, is_executed, word_at_pc}
+use Rattle.vx_flat.specs.Step.{upcoming, is_legal, is_legal_as, word_at_pc}
 use Rattle.vx_flat.specs.Transfers.{Direction, Transfer, Failure, transfer, want_of, failure_of, failure_or, first_failure, below_done}
 use Rattle.vx_flat.specs.Transfers.Direction.{Storing}
 use Rattle.vx_flat.specs.Vectors.{setting_at}
@@ -156,9 +156,9 @@ module _ (L : Laws) (s : Flat) (m : Memory) (w : IsWellFormed s) (alike : AreAli
       let next = next-parts s i h in
       let word : word_at_pc there ≡ word_at_pc s = word-is s memory w next.fetched (λ c denied. stored-leave s.v.vlen s.v.words s.memory first s.memory c (wide 0 k) (none-fails Storing s.memory first good) denied) in
       let legal : is_legal there i ≡ is_legal s i =
-      ap (λ c. is_executed s.vectors_enabled c && is_legal_as c there i) q
-      ∙ ap (λ b. is_executed s.vectors_enabled (VectorStore a e) && not b) (store-legal-alike a e i (setting_at s i) k q)
-      ∙ sym (ap (λ c. is_executed s.vectors_enabled c && is_legal_as c s i) q) in
+      ap (λ c. is_legal_as c there i) q
+      ∙ ap not (store-legal-alike a e i (setting_at s i) k q)
+      ∙ sym (ap (λ c. is_legal_as c s i) q) in
       next-is there i (record {
         fetched = permits-there s.pc Fetch ∙ next.fetched;
         word = ap decoded word ∙ next.word;

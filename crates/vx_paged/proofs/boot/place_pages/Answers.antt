@@ -1,8 +1,8 @@
 -- One page more, and all of them.
-use Rattle.std.proofs.Common.{◌≡◌, ℕ, ◌+◌, ◌-◌, ◌*◌, ◌<◌, List, length, get_or, take, drop, refl, ap, subst, ◌∙◌, arith}
+use Rattle.std.proofs.Common.{◌≡◌, ℕ, ◌+◌, ◌-◌, ◌*◌, ◌<◌, List, length, map, get_or, take, drop, refl, ap, subst, ◌∙◌, arith}
 use Rattle.vx_cells.specs.Cells.{with_accesses}
 use Rattle.vx_paged.specs.Booting.{framed_at, page_at, page_writes}
-use Rattle.vx_paged.specs.Framed.{shown}
+use Rattle.vx_paged.specs.Framed.{entries_of, shown}
 use Rattle.vx_paged.specs.Left.{blanked}
 use Rattle.vx_paged.specs.declared.placement.FramedPage.{FramedPage}
 use Rattle.vx_paged.proofs.Placing.{count_is, bytes_of_page, whole_of, small-more, shown-pages, blanked-pages}
@@ -68,7 +68,7 @@ returns-clause-rest g c =
     let words : blanked placement 0 (g.C.Cells.state c.loop-i.cells).contents ≡ blanked placement 0 before.contents =
     ap (blanked placement 0) (c.loop-i.invariant.makes.contents ∙ ap (λ (n : ℕ). with_accesses before.contents (page_writes before.cycle placement pages n)) last)
     ∙ blanked-pages c.words_are_merged_by_bytes.ensures.whole before.cycle placement c.pages-pages.ensures.kept pages before.contents before.frames c.frames-frames.ensures.memory.whole c.requires.within (length placement) (omega arith) small in
-    λ i. record { frames = c.loop-i.invariant.makes.frames i; cycle = c.loop-i.invariant.makes.cycle i; words = words i }
+    λ i. record { frames = c.loop-i.invariant.makes.frames i; cycle = c.loop-i.invariant.makes.cycle i; words = words i; pages = entries_of placement; places = map (λ (p : FramedPage). p.frame) placement }
 
 pub returns-clause-shown : goal.returns-clause-shown
 returns-clause-shown g c =

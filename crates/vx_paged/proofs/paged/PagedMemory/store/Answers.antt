@@ -1,8 +1,8 @@
 -- The bytes that are put are those at the address, and the word is one of a page's frame.
-use Rattle.std.proofs.Common.{◌≡◌, ℕ, ◌+◌, ◌*◌, ◌/◌, ◌%◌, ◌<◌, List, length, get_or, set, sym, ap, subst, ◌∙◌, arith}
+use Rattle.std.proofs.Common.{◌≡◌, ℕ, ◌+◌, ◌*◌, ◌/◌, ◌%◌, ◌<◌, List, length, map, get_or, set, sym, ap, subst, ◌∙◌, arith}
 use Rattle.vx_base.specs.declared.machine.Want.TheVariants.{Store}
 use Rattle.vx_cells.specs.Merging.{merged}
-use Rattle.vx_paged.specs.Framed.{IsPlacement, shown}
+use Rattle.vx_paged.specs.Framed.{IsPlacement, entries_of, shown}
 use Rattle.vx_paged.specs.Granted.{IsGrantedIn}
 use Rattle.vx_paged.specs.Left.{blanked}
 use Rattle.vx_paged.specs.declared.placement.FramedPage.{FramedPage}
@@ -31,7 +31,7 @@ returns-clause-rest g c =
     ∙ ap (λ (n : ℕ). blanked c.self.inside.pages.items 0 (set contents n made)) c.word_index.ensures
     ∙ left_there c.self.inside.pages.items c.args.address c.in-Some.frame Store granted contents made
     ∙ ap (λ (p : List FramedPage). blanked p 0 contents) c.self.view_is in
-    λ i. record { frames = c.write.ensures.makes.frames i; cycle = c.write.ensures.makes.cycle i; words = words i }
+    λ i. record { frames = c.write.ensures.makes.frames i; cycle = c.write.ensures.makes.cycle i; words = words i; pages = entries_of (c.self.view_is i); places = map (λ (p : FramedPage). p.frame) (c.self.view_is i) }
 
 pub returns-clause-stored : goal.returns-clause-stored
 returns-clause-stored g c =
