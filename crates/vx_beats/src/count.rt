@@ -40,7 +40,8 @@ fn group_of(w: u32, power: u32) -> u32
 #[inline(always)]
 fn groups_in(span: Span, lanes: u32) -> u32
     requires { IsTrue (is_lane_count lanes) }
-    ensures { length (groups_of lanes (range_with_len span.first (span.after - span.first))) ≡ result }
+    ensures few { result ≤ span.after }
+    ensures groups { length (groups_of lanes (range_with_len span.first (span.after - span.first))) ≡ result }
 {
     if span.first >= span.after {
         return 0;
@@ -53,6 +54,7 @@ fn groups_in(span: Span, lanes: u32) -> u32
 #[inline(always)]
 pub fn beat_count(family: Family, at: &Setting, lanes: u32) -> u32
     requires lanes { IsTrue (is_lane_count lanes) }
+    ensures few { result ≤ 4096 }
     ensures reading { (r : Reading) → r.family ≡ family → r.at ≡ view_of at.now → length (groups_made r (groups_of lanes (handled_words r))) ≡ result }
     ensures state { (s : Flat) (i : Instr) (r : Reading) → class_of i.op ≡ VectorArithmetic family → setting_at s i ≡ view_of at.now → reading_at s i ≡ Some r → length (groups_made r (groups_of lanes (handled_words r))) ≡ result }
 {

@@ -49,7 +49,7 @@ fn register_bits(at: &Setting) -> u32
 #[inline(always)]
 fn elements(at: &Setting) -> u32
     ensures is { result ≡ at.now.vl }
-    ensures few { result ≤ 131072 }
+    ensures few { result ≤ 2048 }
 {
     at.vl
 }
@@ -59,7 +59,8 @@ fn elements(at: &Setting) -> u32
 fn whole_words(bits: u32, at: &Setting) -> Span
     requires whole { bits % 64 ≡ 0 }
     requires few { bits ≤ 16384 }
-    ensures { words_from (sew at.now.vtype) at.now.vstart (bits / sew at.now.vtype) ≡ range_with_len result.first (result.after - result.first) }
+    ensures few { result.after ≤ 4096 }
+    ensures words { words_from (sew at.now.vtype) at.now.vstart (bits / sew at.now.vtype) ≡ range_with_len result.first (result.after - result.first) }
 {
     let _register = register_bits(at);
     let from = at.vstart * at.sew();
@@ -77,7 +78,8 @@ fn whole_words(bits: u32, at: &Setting) -> Span
 #[inline(always)]
 fn element_words(width: u32, at: &Setting) -> Span
     requires { width ≤ 128 }
-    ensures { words_from width at.now.vstart at.now.vl ≡ range_with_len result.first (result.after - result.first) }
+    ensures few { result.after ≤ 4096 }
+    ensures words { words_from width at.now.vstart at.now.vl ≡ range_with_len result.first (result.after - result.first) }
 {
     let count = elements(at);
     let _register = register_bits(at);
@@ -94,7 +96,8 @@ fn element_words(width: u32, at: &Setting) -> Span
 /// The words of an operand that are handled.
 #[inline(always)]
 pub(crate) fn words_of(operand: Operand, at: &Setting) -> Span
-    ensures { words_of operand (view_of at.now) ≡ range_with_len result.first (result.after - result.first) }
+    ensures few { result.after ≤ 4096 }
+    ensures words { words_of operand (view_of at.now) ≡ range_with_len result.first (result.after - result.first) }
 {
     let bits = register_bits(at);
     match operand {

@@ -12,9 +12,9 @@ use Rattle.vx_episode.specs.Instructions.{walk_time}
 use Rattle.vx_episode.specs.Organisation.{Start}
 use Rattle.vx_look.proofs.Going.{IsWalked-more}
 use Rattle.vx_look.proofs.Judging.{fate, fate-behind, walks_with-known, walks_with-unknown}
-use Rattle.vx_look.specs.Fates.{told}
+use Rattle.vx_serve.specs.Fates.{told}
 use Rattle.vx_look.specs.LookUps.{AreGoing, AreOf, updated, no_access}
-use Rattle.vx_look.specs.declared.fate.Fate.{Fate}
+use Rattle.vx_serve.specs.declared.fate.Fate.{Fate}
 use Rattle.vx_tables.specs.Caches.{Fill, filled_by}
 use Rattle.vx_tables.specs.Walking.{Walks}
 use Rattle.vx_tables.specs.declared.walked.Walked.{Walked}

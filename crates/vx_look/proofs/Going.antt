@@ -13,10 +13,10 @@ use Rattle.vx_episode.specs.Organisation.{Start}
 use Rattle.vx_look.proofs.Caught.{filled-below, page_map-below}
 use Rattle.vx_look.proofs.Judging.{fate, fate-own, walks_with-known, walks_with-unknown, walks_of-one}
 use Rattle.vx_look.proofs.Orders.{after_walks-joined, after_walks-swapped, pages_of-after_walks}
-use Rattle.vx_look.specs.Fates.{told}
+use Rattle.vx_serve.specs.Fates.{told}
 use Rattle.vx_look.specs.Filled.{IsFoundBelow}
 use Rattle.vx_look.specs.LookUps.{AreReady, AreLookedUp, AreLookedUpBy, IsWalked}
-use Rattle.vx_look.specs.declared.fate.Fate.{Fate}
+use Rattle.vx_serve.specs.declared.fate.Fate.{Fate}
 use Rattle.vx_tables.specs.Caches.{Fill, filled_by}
 use Rattle.vx_tables.specs.Residency.{Residency, pages_of}
 use Rattle.vx_tables.specs.Tables.{AreHeld, SameBut, table_count}

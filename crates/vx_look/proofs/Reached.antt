@@ -10,9 +10,9 @@ use Rattle.vx_episode.specs.History.{History, Walk, BatchTimes}
 use Rattle.vx_episode.specs.Organisation.{Start}
 use Rattle.vx_look.proofs.Batched.{at-each, same-length}
 use Rattle.vx_look.proofs.Going.{IsWalked-none, IsWalked-all}
-use Rattle.vx_look.specs.Fates.{told}
+use Rattle.vx_serve.specs.Fates.{told}
 use Rattle.vx_look.specs.LookUps.{AreGoing, AreLookedUp, AreLookedUpBy, AreReady, no_access}
-use Rattle.vx_look.specs.declared.fate.Fate.{Fate}
+use Rattle.vx_serve.specs.declared.fate.Fate.{Fate}
 use Rattle.vx_tlb.specs.declared.tlb.Kept.{Kept}
 
 -- the first so many accesses of a batch are walked for, and the walks of the others are those that follow

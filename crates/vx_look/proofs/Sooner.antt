@@ -16,9 +16,9 @@ use Rattle.vx_look.proofs.Judging.{fate, walks_with-known, walks_with-unknown}
 use Rattle.vx_look.proofs.Late.{IsSame, late-all}
 use Rattle.vx_look.proofs.Reached.{reached-go, reached-rest, reached-fate, walks-stop}
 use Rattle.vx_look.specs.Aheads.{AgreeAt, ended_by, AreLookedAhead}
-use Rattle.vx_look.specs.Fates.{told}
+use Rattle.vx_serve.specs.Fates.{told}
 use Rattle.vx_look.specs.LookUps.{AreGoing, AreLookedUpBy, AreReady, no_access}
-use Rattle.vx_look.specs.declared.fate.Fate.{Fate}
+use Rattle.vx_serve.specs.declared.fate.Fate.{Fate}
 use Rattle.vx_tlb.specs.declared.tlb.Kept.{Kept}
 
 -- the walks so far end by the cycle

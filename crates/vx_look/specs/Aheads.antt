@@ -8,7 +8,7 @@ use Rattle.vx_episode.specs.Footprint.{Access}
 use Rattle.vx_episode.specs.History.{History, Walk, BatchTimes}
 use Rattle.vx_episode.specs.Organisation.{Start}
 use Rattle.vx_look.specs.LookUps.{AreLookedUpBy}
-use Rattle.vx_look.specs.declared.fate.Fate.{Fate}
+use Rattle.vx_serve.specs.declared.fate.Fate.{Fate}
 use Rattle.vx_tlb.specs.declared.tlb.Kept.{Kept}
 
 -- something is known of an access by a cycle

@@ -7,9 +7,9 @@ use Rattle.vx_episode.specs.Footprint.{Access}
 use Rattle.vx_episode.specs.History.{History, Walk, BatchTimes, fetch_walks, walks_of_batches, fills_of, after_walks}
 use Rattle.vx_episode.specs.Organisation.{Start}
 use Rattle.vx_image.specs.Pages.{page_of}
-use Rattle.vx_look.specs.Fates.{told}
+use Rattle.vx_serve.specs.Fates.{told}
 use Rattle.vx_look.specs.Filled.{AreFilledBelow}
-use Rattle.vx_look.specs.declared.fate.Fate.{Fate}
+use Rattle.vx_serve.specs.declared.fate.Fate.{Fate}
 use Rattle.vx_tables.specs.Residency.{pages_of}
 use Rattle.vx_tables.specs.Tables.{AreHeld, SameBut, table_count}
 use Rattle.vx_tables.specs.declared.walked.Walked.{Walked}

@@ -4,16 +4,16 @@ ghost use Rattle.vx_episode.specs.Footprint.{Access};
 ghost use Rattle.vx_episode.specs.History.{History, BatchTimes};
 ghost use Rattle.vx_episode.specs.Organisation.{Start};
 ghost use Rattle.vx_look.specs.Aheads.{AreLookedAhead};
-ghost use Rattle.vx_look.specs.Fates.{told, AreKnownBy};
+ghost use Rattle.vx_serve.specs.Fates.{told, AreKnownBy};
 ghost use Rattle.vx_look.specs.Filled.{IsFilled};
 ghost use Rattle.vx_look.specs.LookUps.{AreOf, AreReady};
 ghost use Rattle.vx_tables.specs.Walking.{HaveTables};
 
 use crate::batches::{is_failing, walk_missing};
-use crate::fate::Fate;
 use crate::looking::is_unknown;
 use vx_base::Want;
 use vx_cells::Cells;
+use vx_serve::Fate;
 use vx_tlb::Tlb;
 use vx_vaddr::Item;
 

@@ -13,7 +13,7 @@ mod laws;
 mod looking;
 mod pages;
 
-pub use fate::{Fate, Looked};
+pub use fate::Looked;
 pub use fetching::{FetchLookUps, Fetched};
 pub use laws::{accesses_are_of_their_items, walks_commute, words_lie_in_frames};
 pub use looking::DataLookUps;

@@ -159,6 +159,7 @@ impl BankTimes {
         requires stamps { AreBy (2 ^ 62) self.old.stamps }
         ensures done { (machine : Organisation) (earlier : List AccessTimes) (accesses : List Access) (fate_of : Access → batches.Fate) → StandsFor self.old machine earlier
             → map fate_of accesses ≡ map told fates.now → result ≡ done_by (queued_by last (served_of machine earlier fate_of accesses)) }
+        ensures soon { (known : ℕ) → AreBy known self.old.stamps → AreKnownBy known fates.now → result ≤ known + 1 + length fates.now * self.old.bank_time }
         ensures kept { AreOfSame self.old self.new }
     {
         let queue = judged(fates);

@@ -10,7 +10,7 @@ use Rattle.vx_beats.proofs.count.beat_count.Goals as goal
 
 pub returns-clause-reading : goal.returns-clause-reading
 returns-clause-reading c r family at =
-    beats-are r c.args.family (view_of c.args.at.now) c.handled_operand.result c.args.lanes c.words_of.result.first (c.words_of.result.after - c.words_of.result.first) c.groups_in.result family at (c.handled_operand.ensures ∙ ap handled_operand c.operands.ensures) c.words_of.ensures c.groups_in.ensures
+    beats-are r c.args.family (view_of c.args.at.now) c.handled_operand.result c.args.lanes c.words_of.result.first (c.words_of.result.after - c.words_of.result.first) c.groups_in.result family at (c.handled_operand.ensures ∙ ap handled_operand c.operands.ensures) c.words_of.ensures.words c.groups_in.ensures.groups
 
 pub returns-clause-state : goal.returns-clause-state
 returns-clause-state c s i r class at reads =

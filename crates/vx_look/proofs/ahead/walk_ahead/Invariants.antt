@@ -6,7 +6,7 @@ use Rattle.vx_episode.specs.History.{History, BatchTimes}
 use Rattle.vx_episode.specs.Organisation.{Start}
 use Rattle.vx_look.proofs.Sooner.{IsAhead}
 use Rattle.vx_look.proofs.ahead.walk_ahead.Given as goal
-use Rattle.vx_look.specs.Fates.{told, AreKnownBy}
+use Rattle.vx_serve.specs.Fates.{told, AreKnownBy}
 use Rattle.vx_look.specs.Filled.{IsFilled}
 use Rattle.vx_look.specs.LookUps.{AreOf, AreReady}
 use Rattle.vx_tables.specs.Walking.{HaveTables}

@@ -5,8 +5,8 @@ use Rattle.vx_episode.specs.Footprint.{Access}
 use Rattle.vx_episode.specs.History.{History, BatchTimes, walks_of_batches, fills_of}
 use Rattle.vx_episode.specs.Organisation.{Start}
 use Rattle.vx_look.proofs.batches.look_each.Given as goal
-use Rattle.vx_look.specs.Fates.{told, IsKnownBy}
-use Rattle.vx_look.specs.declared.fate.Fate.{Fate}
+use Rattle.vx_serve.specs.Fates.{told, IsKnownBy}
+use Rattle.vx_serve.specs.declared.fate.Fate.{Fate}
 use Rattle.vx_tlb.specs.Kept.{StandsFor}
 use Rattle.vx_vaddr.specs.declared.item.Item.{Item}
 

@@ -3,9 +3,9 @@ use Rattle.std.proofs.lemmas.List.{get_or_default}
 use Rattle.vx_episode.specs.Footprint.{Access}
 use Rattle.vx_look.proofs.Settled.{set-more}
 use Rattle.vx_look.proofs.batches.settle.Goals as goal
-use Rattle.vx_look.specs.Fates.{told, IsKnownBy}
+use Rattle.vx_serve.specs.Fates.{told, IsKnownBy}
 use Rattle.vx_look.specs.LookUps.{updated}
-use Rattle.vx_look.specs.declared.fate.Fate.{Fate}
+use Rattle.vx_serve.specs.declared.fate.Fate.{Fate}
 use Rattle.vx_vaddr.specs.declared.item.Item.{Item}
 
 pub loop-k-preserved : goal.loop-k-preserved

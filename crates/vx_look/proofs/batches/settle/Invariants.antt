@@ -2,9 +2,9 @@
 use Rattle.std.proofs.Common.{◌≡◌, ℕ, ◌<◌, ◌≤◌, length, get_or}
 use Rattle.vx_episode.specs.Footprint.{Access}
 use Rattle.vx_look.proofs.batches.settle.Given as goal
-use Rattle.vx_look.specs.Fates.{told, IsKnownBy, AreKnownBy}
+use Rattle.vx_serve.specs.Fates.{told, IsKnownBy, AreKnownBy}
 use Rattle.vx_look.specs.LookUps.{updated}
-use Rattle.vx_look.specs.declared.fate.Fate.{Fate}
+use Rattle.vx_serve.specs.declared.fate.Fate.{Fate}
 use Rattle.vx_vaddr.specs.declared.item.Item.{Item}
 
 abbrev pub invariant-loop-k : goal.invariant-loop-k

@@ -6,7 +6,7 @@ use Rattle.vx_episode.specs.History.{History, BatchTimes}
 use Rattle.vx_episode.specs.Organisation.{Start}
 use Rattle.vx_look.proofs.Reached.{IsReached}
 use Rattle.vx_look.proofs.batches.walk_each.Given as goal
-use Rattle.vx_look.specs.Fates.{told, AreKnownBy}
+use Rattle.vx_serve.specs.Fates.{told, AreKnownBy}
 use Rattle.vx_look.specs.Filled.{IsFilled}
 use Rattle.vx_look.specs.LookUps.{AreOf, AreReady}
 use Rattle.vx_tables.specs.Walking.{HaveTables}

@@ -1,7 +1,7 @@
 use Rattle.std.proofs.Common.{◌≡◌, ℕ, List, [], ◌∷◌, length, get_or, refl, sym, ap, subst, ◌∙◌, arith}
 use Rattle.vx_look.proofs.looking.DataLookUps.look_ahead_one.Goals as goal
 use Rattle.vx_look.specs.Aheads.{AreLookedAhead}
-use Rattle.vx_look.specs.declared.fate.Fate.{Fate}
+use Rattle.vx_serve.specs.declared.fate.Fate.{Fate}
 
 single : (xs : List Fate) (d : Fate) → length xs ≡ 1 → xs ≡ get_or xs 0 d ∷ []
 single [] d one = absurd (omega (arith, one))
