@@ -42,7 +42,7 @@ impl Options {
     /// The options of a run whose words name none.
     pub fn new() -> Options
         ensures vlen { result.vlen ≡ 256 }
-        ensures lanes { result.lanes ≡ 1 }
+        ensures lanes { result.lanes ≡ 4 }
         ensures banks { result.banks ≡ 8 }
         ensures bank_time { result.bank_time ≡ 4 }
         ensures window { result.window ≡ 1 }
@@ -53,7 +53,7 @@ impl Options {
     {
         Options {
             vlen: 256,
-            lanes: 1,
+            lanes: 4,
             banks: 8,
             bank_time: 4,
             window: 1,

@@ -4,7 +4,7 @@ use Rattle.std.specs.Prelude.{codes}
 use Rattle.std.proofs.lemmas.Bool.{false≢true}
 use Rattle.vx_words.specs.Words.{OptionName, Given, row_of, is_same, is_option_of, given_number, IsInRange, IsFor, ImageFile, IsImage}
 use Rattle.vx_words.specs.Words.ImageFile.{Raw}
-use Rattle.vx_words.specs.Words.OptionName.{Vlen, Window, Lanes, Budget}
+use Rattle.vx_words.specs.Words.OptionName.{Vlen, Window, Lanes, Banks, BankTime, Frames, Budget}
 use Rattle.vx_words.specs.declared.image_job.ImageJob.{ImageJob}
 use Rattle.vx_read.specs.declared.numbers.Numbers.{Numbers}
 use Rattle.vx_read.specs.Numbers.{number_in}
@@ -106,6 +106,9 @@ least_in_range : (option : OptionName) → IsInRange (record { option = option; 
 least_in_range Vlen = (omega arith, omega arith, refl)
 least_in_range Window = (omega arith, omega arith, refl)
 least_in_range Lanes = (omega arith, omega arith, refl)
+least_in_range Banks = (omega arith, omega arith, refl)
+least_in_range BankTime = (omega arith, omega arith, refl)
+least_in_range Frames = (omega arith, omega arith, refl)
 least_in_range Budget = (omega arith, omega arith, refl)
 
 is_none : (had : Option ℕ) → is_some had ≡ false → had ≡ None

@@ -3,7 +3,7 @@ use Rattle.std.proofs.Common.{◌≡◌, ℕ, ◌^◌, ◌<◌, ◌≤◌, ◌�
 use Rattle.std.specs.Prelude.{codes}
 use Rattle.std.proofs.lemmas.Fmt.{decimal_injective}
 use Rattle.vx_words.specs.Words.{OptionName, Given, row_of, given_number, IsInRange, IsFor, job_word, SpellAll, ImageFile, IsImage, AskFor}
-use Rattle.vx_words.specs.Words.OptionName.{Vlen, Window, Lanes, Budget}
+use Rattle.vx_words.specs.Words.OptionName.{Vlen, Window, Lanes, Banks, BankTime, Frames, Budget}
 use Rattle.vx_words.specs.Words.Command.{Execute}
 use Rattle.vx_words.specs.declared.image_job.ImageJob.{ImageJob}
 use Rattle.vx_read.specs.Forms.{IsBoth, HasNoForm}
@@ -135,6 +135,9 @@ small_in : (option : OptionName) (n : ℕ) → n ≤ (row_of option).greatest �
 small_in Vlen n h = omega arith
 small_in Window n h = omega arith
 small_in Lanes n h = omega arith
+small_in Banks n h = omega arith
+small_in BankTime n h = omega arith
+small_in Frames n h = omega arith
 small_in Budget n h = omega arith
 
 pub small : (given : Given) → IsInRange given → given.number < 2 ^ 64

@@ -5,7 +5,7 @@ use Rattle.std.specs.Str.{bytes_eq}
 use Rattle.std.proofs.lemmas.Bool.{false≢true}
 use Rattle.vx_words.specs.Words.{OptionName, row_of, is_same, IsFile, ImageFile, IsRawImage, IsImage}
 use Rattle.vx_words.specs.Words.ImageFile.{Raw, Elf}
-use Rattle.vx_words.specs.Words.OptionName.{Vlen, Window, Lanes, Budget}
+use Rattle.vx_words.specs.Words.OptionName.{Vlen, Window, Lanes, Banks, BankTime, Frames, Budget}
 use Rattle.vx_read.specs.Forms.{IsBoth}
 
 -- the option whose word this is
@@ -14,7 +14,10 @@ named word =
     cond (bytes_eq word (codes "--vlen")) (Some Vlen)
     (cond (bytes_eq word (codes "--window")) (Some Window)
     (cond (bytes_eq word (codes "--lanes")) (Some Lanes)
-    (cond (bytes_eq word (codes "--budget")) (Some Budget) None)))
+    (cond (bytes_eq word (codes "--banks")) (Some Banks)
+    (cond (bytes_eq word (codes "--bank-time")) (Some BankTime)
+    (cond (bytes_eq word (codes "--frames")) (Some Frames)
+    (cond (bytes_eq word (codes "--budget")) (Some Budget) None))))))
 
 -- what stands before the first `=`, and what behind it
 abbrev before_equals : List ℕ → List ℕ
@@ -39,6 +42,9 @@ row_is_name : (option : OptionName) → IsNameOf option (row_of option).word
 row_is_name Vlen = record { named_so = refl; no_equals = refl; first = refl }
 row_is_name Window = record { named_so = refl; no_equals = refl; first = refl }
 row_is_name Lanes = record { named_so = refl; no_equals = refl; first = refl }
+row_is_name Banks = record { named_so = refl; no_equals = refl; first = refl }
+row_is_name BankTime = record { named_so = refl; no_equals = refl; first = refl }
+row_is_name Frames = record { named_so = refl; no_equals = refl; first = refl }
 row_is_name Budget = record { named_so = refl; no_equals = refl; first = refl }
 
 -- and what it is with `=` and a text
@@ -52,6 +58,9 @@ row_is_both : (option : OptionName) (text : List ℕ) → IsBothOf option text (
 row_is_both Vlen text = record { before = refl; behind = refl; equals = refl; first = refl }
 row_is_both Window text = record { before = refl; behind = refl; equals = refl; first = refl }
 row_is_both Lanes text = record { before = refl; behind = refl; equals = refl; first = refl }
+row_is_both Banks text = record { before = refl; behind = refl; equals = refl; first = refl }
+row_is_both BankTime text = record { before = refl; behind = refl; equals = refl; first = refl }
+row_is_both Frames text = record { before = refl; behind = refl; equals = refl; first = refl }
 row_is_both Budget text = record { before = refl; behind = refl; equals = refl; first = refl }
 
 -- no two options have one word
@@ -112,6 +121,9 @@ pub same_option : (one other : OptionName) → is_same one other ≡ true → on
 same_option Vlen Vlen same = refl
 same_option Window Window same = refl
 same_option Lanes Lanes same = refl
+same_option Banks Banks same = refl
+same_option BankTime BankTime same = refl
+same_option Frames Frames same = refl
 same_option Budget Budget same = refl
 same_option one other same = absurd (false≢true same)
 
@@ -119,4 +131,7 @@ pub is_same_itself : (option : OptionName) → is_same option option ≡ true
 is_same_itself Vlen = refl
 is_same_itself Window = refl
 is_same_itself Lanes = refl
+is_same_itself Banks = refl
+is_same_itself BankTime = refl
+is_same_itself Frames = refl
 is_same_itself Budget = refl

@@ -3,7 +3,7 @@ use Rattle.std.proofs.Common.{◌≡◌, ℕ, true, false, ◌+◌, ◌<◌, ◌
 use Rattle.std.proofs.lemmas.List.{take-take, take-append-drop}
 use Rattle.std.proofs.lemmas.Bool.{cases_lt}
 use Rattle.vx_words.specs.Words.{OptionName, Given, is_same, given_number, IsInRange, job_word, ImageFile, AskFor, AreBegun, IsFirstBad}
-use Rattle.vx_words.specs.Words.OptionName.{Vlen, Window, Lanes, Budget}
+use Rattle.vx_words.specs.Words.OptionName.{Vlen, Window, Lanes, Banks, BankTime, Frames, Budget}
 use Rattle.vx_words.specs.Words.Command.{Execute}
 use Rattle.vx_words.specs.declared.image_job.ImageJob.{ImageJob}
 use Rattle.vx_read.specs.declared.numbers.Numbers.{Numbers}
@@ -41,6 +41,9 @@ read_whole job words final image run read is =
     let vlen : run.vlen ≡ given_number Vlen givens = is.vlen ∙ read.numbers Vlen in
     let window : run.window ≡ given_number Window givens = is.window ∙ read.numbers Window in
     let lanes : run.lanes ≡ given_number Lanes givens = is.lanes ∙ read.numbers Lanes in
+    let banks : run.banks ≡ given_number Banks givens = is.banks ∙ read.numbers Banks in
+    let bank_time : run.bank_time ≡ given_number BankTime givens = is.bank_time ∙ read.numbers BankTime in
+    let frames : run.frames ≡ given_number Frames givens = is.frames ∙ read.numbers Frames in
     let budget : run.budget ≡ given_number Budget givens = is.budget ∙ read.numbers Budget in
     let ranges : (option : OptionName) (number : ℕ) → given_number option givens ≡ Some number → IsInRange (record { option = option; number = number }) = λ option number given. given_in_range job words givens image option number read.asked given in
     let Asks : ImageFile → Type 0 = λ i. AskFor (job_word job ∷ words) (Execute job givens i) in
@@ -50,11 +53,17 @@ read_whole job words final image run read is =
       vlen = vlen;
       window = window;
       lanes = lanes;
+      banks = banks;
+      bank_time = bank_time;
+      frames = frames;
       budget = budget;
       in_range = record {
         vlen = in_range_if run.vlen Vlen givens vlen (ranges Vlen);
         window = in_range_if run.window Window givens window (ranges Window);
         lanes = in_range_if run.lanes Lanes givens lanes (ranges Lanes);
+        banks = in_range_if run.banks Banks givens banks (ranges Banks);
+        bank_time = in_range_if run.bank_time BankTime givens bank_time (ranges BankTime);
+        frames = in_range_if run.frames Frames givens frames (ranges Frames);
         budget = in_range_if run.budget Budget givens budget (ranges Budget);
       };
     }
@@ -63,6 +72,9 @@ nothing_new : (givens : List Given) → AreNew nothing givens
 nothing_new givens Vlen number has = absurd (cc)
 nothing_new givens Window number has = absurd (cc)
 nothing_new givens Lanes number has = absurd (cc)
+nothing_new givens Banks number has = absurd (cc)
+nothing_new givens BankTime number has = absurd (cc)
+nothing_new givens Frames number has = absurd (cc)
 nothing_new givens Budget number has = absurd (cc)
 
 -- the words behind the word of the job

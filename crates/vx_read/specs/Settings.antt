@@ -1,15 +1,18 @@
 -- The options, as the program names them. This project's own.
 use Rattle.std.specs.Prelude.{◌≡◌, ℕ}
 use Rattle.vx_words.specs.Words.{OptionName, Given, row_of}
-use Rattle.vx_words.specs.Words.OptionName.{Vlen as VlenOption, Window as WindowOption, Lanes as LanesOption, Budget as BudgetOption}
+use Rattle.vx_words.specs.Words.OptionName.{Vlen as VlenOption, Window as WindowOption, Lanes as LanesOption, Banks as BanksOption, BankTime as BankTimeOption, Frames as FramesOption, Budget as BudgetOption}
 use Rattle.vx_read.specs.declared.settings.Row.{Row}
 use Rattle.vx_read.specs.declared.settings.Setting.{Setting}
-use Rattle.vx_read.specs.declared.settings.Setting.TheVariants.{Vlen, Window, Lanes, Budget}
+use Rattle.vx_read.specs.declared.settings.Setting.TheVariants.{Vlen, Window, Lanes, Banks, BankTime, Frames, Budget}
 
 abbrev pub option_of : Setting → OptionName
 option_of Vlen = VlenOption
 option_of Window = WindowOption
 option_of Lanes = LanesOption
+option_of Banks = BanksOption
+option_of BankTime = BankTimeOption
+option_of Frames = FramesOption
 option_of Budget = BudgetOption
 
 -- the option, and the number that it is given

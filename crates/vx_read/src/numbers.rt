@@ -14,6 +14,9 @@ pub struct Numbers {
     pub vlen: Option<u32>,
     pub window: Option<u32>,
     pub lanes: Option<u32>,
+    pub banks: Option<u32>,
+    pub bank_time: Option<u32>,
+    pub frames: Option<u32>,
     pub budget: Option<u64>,
 }
 
@@ -26,6 +29,9 @@ impl Numbers {
             vlen: None,
             window: None,
             lanes: None,
+            banks: None,
+            bank_time: None,
+            frames: None,
             budget: None,
         }
     }
@@ -38,6 +44,9 @@ impl Numbers {
             Setting::Vlen => self.vlen.is_some(),
             Setting::Window => self.window.is_some(),
             Setting::Lanes => self.lanes.is_some(),
+            Setting::Banks => self.banks.is_some(),
+            Setting::BankTime => self.bank_time.is_some(),
+            Setting::Frames => self.frames.is_some(),
             Setting::Budget => self.budget.is_some(),
         }
     }
@@ -60,6 +69,18 @@ impl Numbers {
                 lanes: Some(number as u32),
                 ..self
             },
+            Setting::Banks => Numbers {
+                banks: Some(number as u32),
+                ..self
+            },
+            Setting::BankTime => Numbers {
+                bank_time: Some(number as u32),
+                ..self
+            },
+            Setting::Frames => Numbers {
+                frames: Some(number as u32),
+                ..self
+            },
             Setting::Budget => Numbers {
                 budget: Some(number),
                 ..self
@@ -75,6 +96,9 @@ impl Numbers {
             vlen: self.vlen,
             window: self.window,
             lanes: self.lanes,
+            banks: self.banks,
+            bank_time: self.bank_time,
+            frames: self.frames,
             budget: self.budget,
             image,
         }

@@ -1,5 +1,5 @@
 ghost use Rattle.std.specs.Prelude.{◌≡◌, MatchOption};
-ghost use Rattle.vx_base.specs.Options.{is_register_length};
+ghost use Rattle.vx_base.specs.Options.{is_register_length, is_lane_count, is_bank_count};
 ghost use Rattle.vx_words.specs.Words.{OptionName, row_of, is_option_of};
 ghost use Rattle.vx_read.specs.Settings.{option_of, IsRow};
 
@@ -11,14 +11,20 @@ pub enum Setting {
     Vlen,
     Window,
     Lanes,
+    Banks,
+    BankTime,
+    Frames,
     Budget,
 }
 
 /// The options.
-const SETTINGS: [Setting; 4] = [
+const SETTINGS: [Setting; 7] = [
     Setting::Vlen,
     Setting::Window,
     Setting::Lanes,
+    Setting::Banks,
+    Setting::BankTime,
+    Setting::Frames,
     Setting::Budget,
 ];
 
@@ -35,6 +41,20 @@ fn is_register_length(bits: u64) -> bool
     ensures { result ≡ is_register_length bits }
 {
     bits == 128 || bits == 256 || bits == 512 || bits == 1024 || bits == 2048
+}
+
+/// Whether there may be so many lanes.
+fn is_lane_count(lanes: u64) -> bool
+    ensures { result ≡ is_lane_count lanes }
+{
+    lanes == 1 || lanes == 2 || lanes == 4 || lanes == 8
+}
+
+/// Whether there may be so many banks.
+fn is_bank_count(banks: u64) -> bool
+    ensures { result ≡ is_bank_count banks }
+{
+    banks == 1 || banks == 2 || banks == 4 || banks == 8 || banks == 16
 }
 
 impl Setting {
@@ -56,7 +76,22 @@ impl Setting {
             Setting::Lanes => Row {
                 word: "--lanes",
                 least: 1,
-                greatest: 1,
+                greatest: 8,
+            },
+            Setting::Banks => Row {
+                word: "--banks",
+                least: 1,
+                greatest: 16,
+            },
+            Setting::BankTime => Row {
+                word: "--bank-time",
+                least: 1,
+                greatest: 16,
+            },
+            Setting::Frames => Row {
+                word: "--frames",
+                least: 16,
+                greatest: 16384,
             },
             Setting::Budget => Row {
                 word: "--budget",
@@ -72,7 +107,9 @@ impl Setting {
     {
         match self {
             Setting::Vlen => is_register_length(number),
-            Setting::Window | Setting::Lanes | Setting::Budget => true,
+            Setting::Lanes => is_lane_count(number),
+            Setting::Banks => is_bank_count(number),
+            Setting::Window | Setting::BankTime | Setting::Frames | Setting::Budget => true,
         }
     }
 
@@ -81,13 +118,11 @@ impl Setting {
         ensures { result ≡ is_option_of job (option_of self) }
     {
         match job {
-            ImageJob::Run => match self {
-                Setting::Vlen => false,
-                Setting::Window | Setting::Lanes | Setting::Budget => true,
-            },
+            ImageJob::Run => true,
             ImageJob::Alone => match self {
                 Setting::Vlen | Setting::Budget => true,
                 Setting::Window | Setting::Lanes => false,
+                Setting::Banks | Setting::BankTime | Setting::Frames => false,
             },
         }
     }

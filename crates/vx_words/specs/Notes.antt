@@ -58,6 +58,10 @@ bad_image name fault = note (name ∷ codes ": " ∷ fault_words fault)
 abbrev pub write_failed : List ℕ
 write_failed = note (codes "write failed" ∷ [])
 
+-- so many frames are needed, and so many are there
+abbrev pub too_few_frames : (need have : ℕ) → List ℕ
+too_few_frames need have = note (codes "frames: " ∷ decimal need ∷ codes " needed, " ∷ decimal have ∷ codes " given" ∷ [])
+
 abbrev pub no_memory : List ℕ
 no_memory = note (codes "no memory" ∷ [])
 

@@ -1,7 +1,7 @@
 -- The exit statuses. This project's own.
 use Rattle.std.specs.Prelude.{ℕ}
 use Rattle.vx_words.specs.declared.status.Status.{Status}
-use Rattle.vx_words.specs.declared.status.Status.TheVariants.{Done, Usage, ReadFault, BadImage, WriteFault, Spent, NoMemory, BadSource}
+use Rattle.vx_words.specs.declared.status.Status.TheVariants.{Done, Usage, ReadFault, BadImage, WriteFault, Spent, NoMemory, BadSource, TooFewFrames}
 
 abbrev pub number_of : Status → ℕ
 number_of Done = 0
@@ -12,3 +12,4 @@ number_of WriteFault = 4
 number_of Spent = 5
 number_of NoMemory = 8
 number_of BadSource = 9
+number_of TooFewFrames = 11

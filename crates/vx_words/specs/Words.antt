@@ -1,6 +1,6 @@
 -- The words of the command line and what they ask for; the program's name isn't among them. This project's own.
 use Rattle.std.specs.Prelude.{◌≡◌, ◌≢◌, ℕ, ◌+◌, ◌^◌, ◌<◌, ◌≤◌, Bool, true, false, ◌⊎◌, List, [], ◌∷◌, ◌++◌, length, take, Option, Some, None, if◌then◌else◌, codes, decimal}
-use Rattle.vx_base.specs.Options.{is_register_length}
+use Rattle.vx_base.specs.Options.{is_register_length, is_lane_count, is_bank_count}
 use Rattle.vx_words.specs.declared.image_job.ImageJob.{ImageJob}
 use Rattle.vx_words.specs.declared.image_job.ImageJob.TheVariants.{Run, Alone}
 
@@ -9,6 +9,9 @@ pub data OptionName : Type 0 where
   Vlen : OptionName
   Window : OptionName
   Lanes : OptionName
+  Banks : OptionName
+  BankTime : OptionName
+  Frames : OptionName
   Budget : OptionName
 
 -- the word of an option, the least and the greatest number that it takes, and which of those between it takes
@@ -25,7 +28,10 @@ every number = true
 abbrev pub row_of : OptionName → OptionRow
 row_of Vlen = record { word = codes "--vlen"; least = 128; greatest = 2048; takes = is_register_length }
 row_of Window = record { word = codes "--window"; least = 1; greatest = 1; takes = every }
-row_of Lanes = record { word = codes "--lanes"; least = 1; greatest = 1; takes = every }
+row_of Lanes = record { word = codes "--lanes"; least = 1; greatest = 8; takes = is_lane_count }
+row_of Banks = record { word = codes "--banks"; least = 1; greatest = 16; takes = is_bank_count }
+row_of BankTime = record { word = codes "--bank-time"; least = 1; greatest = 16; takes = every }
+row_of Frames = record { word = codes "--frames"; least = 16; greatest = 16384; takes = every }
 row_of Budget = record { word = codes "--budget"; least = 1; greatest = 2 ^ 40; takes = every }
 
 -- the word of what is done with an image
@@ -35,19 +41,28 @@ job_word Alone = codes "alone"
 
 -- whether the option may be given for it
 abbrev pub is_option_of : ImageJob → OptionName → Bool
-is_option_of Run Vlen = false
+is_option_of Run Vlen = true
 is_option_of Run Window = true
 is_option_of Run Lanes = true
+is_option_of Run Banks = true
+is_option_of Run BankTime = true
+is_option_of Run Frames = true
 is_option_of Run Budget = true
 is_option_of Alone Vlen = true
 is_option_of Alone Window = false
 is_option_of Alone Lanes = false
+is_option_of Alone Banks = false
+is_option_of Alone BankTime = false
+is_option_of Alone Frames = false
 is_option_of Alone Budget = true
 
 abbrev pub is_same : OptionName → OptionName → Bool
 is_same Vlen Vlen = true
 is_same Window Window = true
 is_same Lanes Lanes = true
+is_same Banks Banks = true
+is_same BankTime BankTime = true
+is_same Frames Frames = true
 is_same Budget Budget = true
 is_same one other = false
 

@@ -20,6 +20,8 @@ pub enum Status {
     NoMemory,
     /// A source has a fault.
     BadSource,
+    /// Physical memory has too few frames for the image.
+    TooFewFrames,
 }
 
 impl Status {
@@ -36,6 +38,7 @@ impl Status {
             Status::Spent => 5,
             Status::NoMemory => 8,
             Status::BadSource => 9,
+            Status::TooFewFrames => 11,
         }
     }
 }
