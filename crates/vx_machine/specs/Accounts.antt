@@ -2,6 +2,7 @@
 use Rattle.std.specs.Prelude.{◌≡◌, ℕ, ◌≤◌, ℤ, List, Option, Some, None}
 use Rattle.vx_base.specs.declared.machine.Fault.{Fault}
 use Rattle.vx_image.specs.Pages.{Image}
+use Rattle.vx_flat.specs.Prefix.{flat_within}
 use Rattle.vx_flat.specs.Process.{Process}
 use Rattle.vx_flat.specs.Run.{flat, Exits, Faults, IsPrefixOf}
 use Rattle.vx_flat.specs.State.{Flat}
@@ -46,7 +47,7 @@ account_of m = account_with (Some (record { cycles = m.cycles; misses = 0 })) m.
 abbrev pub account_alone : Process → Account
 account_alone p = account_with None p
 
--- alone on the hart, the image exits so after n instructions and has written this
+-- alone on the hart, the image exits so with its n-th instruction and has written this
 pub record ExitsAlone (hart : Hart) (image : Image) (n : ℕ) (code : ℤ) (output : List ℕ) : Type 0 where
   pub last : Flat
   pub exits : Exits hart image n code last
@@ -59,11 +60,11 @@ pub record FaultsAlone (hart : Hart) (image : Image) (n : ℕ) (fault : Fault) (
   pub at : pc ≡ last.pc
   pub wrote : output ≡ last.output
 
--- alone on the hart, the image has this pc and vstart after n instructions, and has written this, which is a prefix of all
--- that it goes on to write
+-- alone on the hart, the image has this pc after n instructions and, where vstart rose within the next one, its elements below,
+-- and has written this, which is a prefix of all that it goes on to write
 pub record GoesOnAlone (hart : Hart) (image : Image) (n : ℕ) (pc vstart : ℕ) (output : List ℕ) : Type 0 where
   pub now : Flat
-  pub reached : flat hart image n ≡ Some now
+  pub reached : flat_within hart image n vstart ≡ Some now
   pub at : pc ≡ now.pc
   pub element : vstart ≡ now.v.vstart
   pub wrote : output ≡ now.output
@@ -77,3 +78,13 @@ StandsAlone hart image n output (Stopped pc vstart) = GoesOnAlone hart image n p
 -- what an account tells is so of the image alone on the hart
 abbrev pub IsTrueOf : Hart → Image → Account → Type 0
 IsTrueOf hart image a = StandsAlone hart image a.instructions a.output a.standing
+
+-- where a process is in the run of its image alone on the hart: it exited or faulted so, or stands within its next instruction
+abbrev pub IsAt : Hart → Image → (count : ℕ) → Flat → Option End → Type 0
+IsAt hart image count s (Some (end.Exited code)) = ExitsAlone hart image count code s.output
+IsAt hart image count s (Some (end.Faulted fault)) = FaultsAlone hart image count fault s.pc s.output
+IsAt hart image count s None = flat_within hart image count s.v.vstart ≡ Some s
+
+-- the process is one of that run
+abbrev pub IsOfRun : Hart → Image → Process → Type 0
+IsOfRun hart image p = IsAt hart image p.count p.state p.over

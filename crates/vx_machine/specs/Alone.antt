@@ -1,13 +1,8 @@
 -- An image alone, an instruction at a time, under a budget of instructions. This project's own.
-use Rattle.std.specs.Prelude.{◌≡◌, ℕ, ◌<◌, true, Option, Some, None}
+use Rattle.std.specs.Prelude.{◌≡◌, ℕ, ◌<◌, Option, Some, None}
 use Rattle.vx_flat.specs.Process.{Process, stepped_on}
-use Rattle.vx_flat.specs.declared.hart.Hart.{Hart}
 use Rattle.vx_machine.specs.Machine.{stop_at}
 use Rattle.vx_machine.specs.declared.stop.Stop.{Stop}
-
--- the hart, with vector instructions enabled
-abbrev pub enabled : Hart → Hart
-enabled hart = record { vlen = hart.vlen; vectors_enabled = true }
 
 -- how a process alone stops, by the instructions that it has completed
 abbrev pub stop_alone : (budget : ℕ) → Process → Option Stop

@@ -1,22 +1,24 @@
 -- The claim: what each answer of the program's call says. This project's own.
-use Rattle.std.specs.Prelude.{◌≡◌, ℕ, ◌⊎◌, List, [], ◌∷◌, Some, None}
+use Rattle.std.specs.Prelude.{◌≡◌, ℕ, ◌<◌, ◌≤◌, ◌⊎◌, min, List, [], ◌∷◌, Some, None}
 use Rattle.vx_base.specs.Shelf.{ShelfState, AsksFor, Reads, FailsToRead, IsTooLong, IsUnasked}
 use Rattle.vx_base.specs.Sink.{SinkState, IsWritten, IsBegun, IsCutOff}
+use Rattle.vx_cells.specs.Cells.{CellsState}
 use Rattle.vx_elf.specs.Writing.{written}
+use Rattle.vx_episode.specs.Show.{Registers, Shows}
 use Rattle.vx_image.specs.Pages.{Image}
 use Rattle.vx_flat.specs.Process.{begun, stepped_on}
 use Rattle.vx_language.specs.Assembly.{faults, first_fault, assembled}
 use Rattle.vx_language.specs.declared.fault.Fault.{Fault}
 use Rattle.vx_machine.specs.Accounts.{account_of, account_alone, IsTrueOf}
-use Rattle.vx_machine.specs.Alone.{enabled, StopsAfter}
+use Rattle.vx_machine.specs.Alone.{StopsAfter}
 use Rattle.vx_machine.specs.ImageFiles.{file_fault, image_of_file}
-use Rattle.vx_machine.specs.Machine.{Settings, settings_for, machine, stop_of}
+use Rattle.vx_machine.specs.Machine.{Machine, Settings, settings_for, needed_frames, machine, stop_of}
 use Rattle.vx_machine.specs.Report.{report}
 use Rattle.vx_machine.specs.declared.account.Measure.TheVariants.{Cycles, Instructions}
 use Rattle.vx_machine.specs.declared.stop.Stop.{Stop}
 use Rattle.vx_machine.specs.declared.stop.Stop.TheVariants as stop
 use Rattle.vx_source.specs.Listing.{listing}
-use Rattle.vx_words.specs.Notes.{file_limit, bad_words, read_failed, bad_image, bad_source, write_failed, no_memory}
+use Rattle.vx_words.specs.Notes.{file_limit, bad_words, read_failed, bad_image, bad_source, write_failed, too_few_frames, no_memory}
 use Rattle.vx_words.specs.declared.file_fault.FileFault.{FileFault}
 use Rattle.vx_words.specs.declared.file_fault.FileFault.TheVariants.{TooLong}
 use Rattle.vx_words.specs.Words.{Given, ImageFile, name_of, AskFor, AskForFile, AskToExecute, AreOutside, IsFirstBad}
@@ -24,34 +26,50 @@ use Rattle.vx_words.specs.Words.Command.{Execute, Dis, Asm}
 use Rattle.vx_words.specs.declared.image_job.ImageJob.{ImageJob}
 use Rattle.vx_words.specs.declared.image_job.ImageJob.TheVariants.{Run, Alone}
 use Rattle.vx_words.specs.declared.status.Status.{Status}
-use Rattle.vx_words.specs.declared.status.Status.TheVariants.{Done, Usage, ReadFault, BadImage, WriteFault, Spent, NoMemory, BadSource}
+use Rattle.vx_words.specs.declared.status.Status.TheVariants.{Done, Usage, ReadFault, BadImage, WriteFault, Spent, NoMemory, BadSource, TooFewFrames}
 
--- what the call is handed: the shelf, where the report goes and where the notes go
+-- what the call is handed: the shelf, where the report goes, where the notes go, and physical memory
 pub record Devices : Type 0 where
   pub shelf : ShelfState
   pub out : SinkState
   pub note : SinkState
+  pub cells : CellsState
 
--- the headline: after so many rounds the machine stops so, the report tells its state, and what it tells is so of the
--- image alone on the hart of the run
-pub record Headline (settings : Settings) (image : Image) (stop : Stop) (text : List ℕ) : Type 0 where
+-- physical memory shows the machine's process, with its page tables from frame 0 on, at the machine's cycle
+pub record Leaves (cells : CellsState) (m : Machine) : Type 0 where
+  pub registers : Registers
+  pub shows : Shows registers cells 0 m.residency m.process.state
+  pub cycle : cells.cycle ≡ m.clock
+
+-- the headline: after so many rounds the machine stops so, physical memory shows its process, the report tells its state,
+-- and what it tells is so of the image alone on the hart of the run
+pub record Headline (settings : Settings) (image : Image) (stop : Stop) (cells : CellsState) (text : List ℕ) : Type 0 where
   pub count : ℕ
   pub stops : stop_of settings (machine settings image count) ≡ Some stop
+  pub leaves : Leaves cells (machine settings image count)
   pub tells : text ≡ report (account_of (machine settings image count) ∷ []) (machine settings image count).clock Cycles stop
   pub values : IsTrueOf settings.hart image (account_of (machine settings image count))
 
--- the image alone, on the hart with its vectors enabled, stops so after so many steps, the report tells its state, and what
--- it tells is so
+-- the image alone on the hart stops so after so many steps, the report tells its state, and what it tells is so
 pub record HeadlineAlone (settings : Settings) (image : Image) (stop : Stop) (text : List ℕ) : Type 0 where
   pub steps : ℕ
-  pub stops : StopsAfter settings.budget (begun (enabled settings.hart) image) steps stop
-  pub tells : text ≡ report (account_alone (stepped_on steps (begun (enabled settings.hart) image)) ∷ []) (stepped_on steps (begun (enabled settings.hart) image)).count Instructions stop
-  pub values : IsTrueOf (enabled settings.hart) image (account_alone (stepped_on steps (begun (enabled settings.hart) image)))
+  pub stops : StopsAfter settings.budget (begun settings.hart image) steps stop
+  pub tells : text ≡ report (account_alone (stepped_on steps (begun settings.hart image)) ∷ []) (stepped_on steps (begun settings.hart image)).count Instructions stop
+  pub values : IsTrueOf settings.hart image (account_alone (stepped_on steps (begun settings.hart image)))
 
--- what a job with an image tells
-abbrev pub HeadlineOf : ImageJob → Settings → Image → Stop → List ℕ → Type 0
-HeadlineOf Run settings image stop text = Headline settings image stop text
-HeadlineOf Alone settings image stop text = HeadlineAlone settings image stop text
+-- what a job with an image tells, and what it leaves of physical memory; alone it leaves that as it was
+abbrev pub HeadlineOf : ImageJob → Settings → Image → Stop → (before after : CellsState) → List ℕ → Type 0
+HeadlineOf Run settings image stop before after text = Headline settings image stop after text
+HeadlineOf Alone settings image stop before after text = HeadlineAlone settings image stop text × (after ≡ before)
+
+-- the frames that a run may use: the lesser of those of its settings and those of physical memory
+abbrev pub given_frames : Settings → CellsState → ℕ
+given_frames settings cells = min settings.frames cells.frames
+
+-- there are enough frames for the job with the image; alone it needs none
+abbrev pub HasRoom : ImageJob → Settings → Image → CellsState → Type 0
+HasRoom Run settings image cells = needed_frames image ≤ given_frames settings cells
+HasRoom Alone settings image cells = Unit {0}
 
 -- the status of a run that stopped so
 abbrev pub status_of : Stop → Status
@@ -69,6 +87,7 @@ pub record HasBadWords (words : List (List ℕ)) (before after : Devices) : Type
   pub first_bad : IsFirstBad words index
   pub shelf : after.shelf ≡ before.shelf
   pub out : after.out ≡ before.out
+  pub cells : after.cells ≡ before.cells
   pub note : IsNoted before.note after.note (bad_words index)
 
 -- a fault of the shelf came in this call
@@ -77,6 +96,7 @@ pub record HasReadFault (words : List (List ℕ)) (before after : Devices) : Typ
   pub asks : AskForFile words name
   pub read : FailsToRead before.shelf after.shelf name
   pub out : after.out ≡ before.out
+  pub cells : after.cells ≡ before.cells
   pub note : IsNoted before.note after.note (read_failed name)
 
 -- the words ask for a job with the image in the file of this name, and its bytes have the fault
@@ -99,6 +119,7 @@ pub record HasBadImage (words : List (List ℕ)) (before after : Devices) : Type
   pub fault : FileFault
   pub cause : HasFault words before after name fault
   pub out : after.out ≡ before.out
+  pub cells : after.cells ≡ before.cells
   pub note : IsNoted before.note after.note (bad_image name fault)
 
 -- the words ask for a job with an image; the file gives one, and it ran and stopped with this status and this report
@@ -110,9 +131,23 @@ pub record HasRun (words : List (List ℕ)) (before after : Devices) (status : S
   pub bytes : List ℕ
   pub read : Reads before.shelf after.shelf (name_of file) file_limit bytes
   pub is_image : file_fault file bytes ≡ None
+  pub room : HasRoom job (settings_for givens) (image_of_file file bytes) before.cells
   pub stop : Stop
-  pub headline : HeadlineOf job (settings_for givens) (image_of_file file bytes) stop text
+  pub headline : HeadlineOf job (settings_for givens) (image_of_file file bytes) stop before.cells after.cells text
   pub answers : status ≡ status_of stop
+
+-- the words ask to run an image, the file gives one, and there are too few frames for it
+pub record HasTooFewFrames (words : List (List ℕ)) (before after : Devices) : Type 0 where
+  pub givens : List Given
+  pub file : ImageFile
+  pub asks : AskFor words (Execute Run givens file)
+  pub bytes : List ℕ
+  pub read : Reads before.shelf after.shelf (name_of file) file_limit bytes
+  pub is_image : file_fault file bytes ≡ None
+  pub few : given_frames (settings_for givens) before.cells < needed_frames (image_of_file file bytes)
+  pub out : after.out ≡ before.out
+  pub cells : after.cells ≡ before.cells
+  pub note : IsNoted before.note after.note (too_few_frames (needed_frames (image_of_file file bytes)) (given_frames (settings_for givens) before.cells))
 
 -- the words ask for a file's listing, and this is it
 pub record HasListed (words : List (List ℕ)) (before after : Devices) (status : Status) (text : List ℕ) : Type 0 where
@@ -121,6 +156,7 @@ pub record HasListed (words : List (List ℕ)) (before after : Devices) (status 
   pub bytes : List ℕ
   pub read : Reads before.shelf after.shelf name file_limit bytes
   pub lists : text ≡ listing bytes
+  pub cells : after.cells ≡ before.cells
   pub answers : status ≡ Done
 
 -- the words ask to assemble a file; it is a source without a fault, and this is the ELF file of its program
@@ -131,6 +167,7 @@ pub record HasAssembled (words : List (List ℕ)) (before after : Devices) (stat
   pub read : Reads before.shelf after.shelf name file_limit bytes
   pub faultless : faults bytes ≡ []
   pub writes : text ≡ written (assembled bytes)
+  pub cells : after.cells ≡ before.cells
   pub answers : status ≡ Done
 
 -- the command's job is done with this status, and its text is this
@@ -147,6 +184,7 @@ pub record HasBadSource (words : List (List ℕ)) (before after : Devices) : Typ
   pub fault : Fault
   pub first : first_fault bytes ≡ Some fault
   pub out : after.out ≡ before.out
+  pub cells : after.cells ≡ before.cells
   pub note : IsNoted before.note after.note (bad_source name bytes fault)
 
 -- the text was written whole
@@ -187,3 +225,4 @@ Claims words before after WriteFault = HasWriteFault words before after
 Claims words before after Spent = HasTold words before after Spent
 Claims words before after NoMemory = HasNoMemory words before after
 Claims words before after BadSource = HasBadSource words before after
+Claims words before after TooFewFrames = HasTooFewFrames words before after

@@ -1,4 +1,0 @@
-pub mod Cycles
-pub mod Episode
-pub mod Footprint
-pub mod History
