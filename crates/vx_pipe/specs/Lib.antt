@@ -1,0 +1,14 @@
+pub mod Accessing
+pub mod Beating
+pub mod Classes
+pub mod Going
+pub mod Left
+pub mod Pipes
+pub mod Plain
+pub mod Moving
+pub mod Passing
+pub mod Playing
+pub mod Present
+pub mod Retiring
+pub mod Transfers
+pub mod Turning

@@ -1,0 +1,131 @@
+//! Scalar loads and stores in time.
+
+ghost use Rattle.std.specs.Prelude.{◌≡◌, ◌⊎◌, ℕ, ◌+◌, ◌≤◌, ◌^◌, List, Some};
+ghost use Rattle.vx_cells.specs.Cells.{CellsState};
+ghost use Rattle.vx_decode.specs.Encoded.{IsValid};
+ghost use Rattle.vx_episode.specs.Organisation.{Start};
+ghost use Rattle.vx_flat.specs.Process.{Process};
+ghost use Rattle.vx_pipe.specs.Accessing.{IsAccessClass, wanted_as};
+ghost use Rattle.vx_pipe.specs.Going.{IsEpisodeOn, IsIssuing};
+ghost use Rattle.vx_pipe.specs.Left.{registers_of};
+ghost use Rattle.vx_pipe.specs.Playing.{shown_state};
+ghost use Rattle.vx_pipe.specs.Turning.{HasTurned, IsIssued, IsTimely, caches_of, course_of, machine_of};
+ghost use Rattle.vx_rows.specs.Table.{class_of};
+ghost use Rattle.vx_serve.specs.Fates.{told};
+ghost use Rattle.vx_serve.specs.InTurn.{is_good};
+
+use crate::engine::Engine;
+use crate::fetches::fetch_behind;
+use crate::retire::{TRAP_CYCLES, retire};
+use crate::turn::Turn;
+use vx_base::Want;
+use vx_batching::{
+    a_batch_passes, a_batch_starts, batches_are_in_flight, batches_begin,
+    instructions_complete_behind_their_batches, instructions_stop_in_a_batch,
+};
+use vx_cells::Cells;
+use vx_course::courses_end;
+use vx_decode::Known;
+use vx_flat::runs_are_well_formed;
+use vx_hart::Arch;
+use vx_look::walks_commute;
+use vx_paged::{Paged, tables_stay, walks_leave_pages};
+use vx_pending::{
+    footprints_are_the_same, nothing_else_differs, pending_bytes_are_not_read, steps_are_alike,
+};
+use vx_quiet::{instructions_issue_behind_a_quiet_history, instructions_without_accesses_complete};
+use vx_rows::Class;
+use vx_scalar::{access_width, scalar_address};
+use vx_serve::Fate;
+
+/// What the access of a load or a store wants.
+#[inline(always)]
+fn wanted_as(class: Class) -> Want
+    ensures { result ≡ wanted_as class }
+{
+    match class {
+        Class::Store => Want::Store,
+        _ => Want::Load,
+    }
+}
+
+/// Whether an access is let through.
+#[inline(always)]
+fn is_good(fate: Fate) -> bool
+    ensures { result ≡ is_good (told fate) }
+{
+    match fate {
+        Fate::Good(_, _) => true,
+        Fate::Fails(_, _) | Fate::Unknown => false,
+    }
+}
+
+/// Does a scalar load or store that was issued: it completes once its access is done, or the episode ends with its fault.
+pub(crate) fn access<C: Cells>(
+    engine: &mut Engine,
+    cells: &mut C,
+    arch: &mut Arch,
+    memory: &mut Paged,
+    root: u32,
+    until: u64,
+    fetched: u64,
+    word: u32,
+    known: Known,
+) -> Turn
+    requires valid { IsValid known.instr }
+    requires class { IsAccessClass known.class }
+    requires until { until ≤ 2 ^ 42 }
+    requires issued { IsIssued (machine_of engine.old) root until memory.old (course_of engine.old.course) fetched (caches_of engine.old) (C.state cells.old) (registers_of arch.old) word known.instr }
+    ensures turned { (start : Start) (from : Process) (first : CellsState) (output : List ℕ) → IsEpisodeOn (machine_of engine.old) root memory.old start
+        → IsIssuing start until from first (course_of engine.old.course) fetched (caches_of engine.old) (C.state cells.old) (shown_state (registers_of arch.old) memory.old (C.state cells.old) output)
+        → HasTurned result engine.new.fault start until from first (course_of engine.new.course) (caches_of engine.new) (C.state cells.new) (shown_state (registers_of arch.new) memory.new (C.state cells.new) output) }
+    ensures timely { IsTimely result (course_of engine.old.course) (course_of engine.new.course) }
+    ensures machine { machine_of engine.new ≡ machine_of engine.old }
+    ensures memory { memory.new ≡ memory.old }
+{
+    a_batch_passes();
+    a_batch_starts();
+    batches_are_in_flight();
+    batches_begin();
+    courses_end();
+    footprints_are_the_same();
+    instructions_complete_behind_their_batches();
+    instructions_issue_behind_a_quiet_history();
+    instructions_stop_in_a_batch();
+    instructions_without_accesses_complete();
+    nothing_else_differs();
+    pending_bytes_are_not_read();
+    runs_are_well_formed();
+    steps_are_alike();
+    tables_stay();
+    walks_commute();
+    walks_leave_pages();
+    let bank_time = u64::from(engine.bank_time);
+    let want = wanted_as(known.class);
+    let address = scalar_address(&known.instr, &arch.regs);
+    let width = access_width(known.instr.op);
+    let behind = arch.pc.wrapping_add(4);
+    let issued = u64::max(fetched, engine.course.retired + 1);
+    let looked = engine
+        .loads
+        .look_one(cells, root, bank_time, want, issued + 1, address, width);
+    engine.executor.execute(arch, memory, cells, word, known);
+    if is_good(looked.fate) {
+        let served = engine.banks.serve_one(looked.fate);
+        let completed = u64::max(looked.ended, served.done);
+        return retire(
+            engine, cells, root, until, arch.pc, issued, completed, 0, false, false,
+        );
+    }
+    engine.fault = engine.executor.fault();
+    fetch_behind(
+        &mut engine.fetches,
+        cells,
+        root,
+        bank_time,
+        behind,
+        issued + 1,
+        looked.ended,
+    );
+    Turn::Faulted(looked.ended + TRAP_CYCLES)
+}
