@@ -1,13 +1,14 @@
 //! The program `vexec`: hands the words of the command line, the system's files, standard output and standard error to
-//! the call `vexec`, and ends with the number that it answers. It writes nothing itself.
+//! the call `vexec`, with as much physical memory as they ask for, and ends with the number that it answers. It writes nothing itself.
 #![tactic(auto)]
 
 use std::env;
 use std::env::Env;
 use std::io::ErrorKind;
 use std::process::ExitCode;
+use vx_cells::VecCells;
 use vx_files::{FileShelf, OutSink};
-use vx_top::{Status, vexec};
+use vx_top::{Status, frames_for, vexec};
 
 /// The words of the command line, without the program's name. Words that aren't UTF-8 ask for nothing.
 fn words_of<R: Env + AllocGlobal>(rt: &R) -> Result<Vec<String>, Status> {
@@ -26,6 +27,9 @@ fn main(rt: HostRuntime) -> ExitCode {
         Ok(words) => words,
         Err(status) => return ExitCode::from(status.number()),
     };
+    let Ok(mut cells) = VecCells::new(rt.alloc(), frames_for(words.as_slice())) else {
+        return ExitCode::from(Status::NoMemory.number());
+    };
     let mut shelf = FileShelf::new(rt.alloc(), &rt);
     let mut out = OutSink::new(rt.stdout());
     let mut note = OutSink::new(rt.stderr());
@@ -35,6 +39,7 @@ fn main(rt: HostRuntime) -> ExitCode {
         &mut shelf,
         &mut out,
         &mut note,
+        &mut cells,
     );
     ExitCode::from(status.number())
 }

@@ -1,7 +1,8 @@
-pub mod Episodes
-pub mod Quiet
+pub mod Booting
+pub mod Playing
 pub mod Rounds
 pub mod Services
-pub mod Steps
 pub mod Stops
+pub mod Taking
+pub mod Timed
 pub mod UnderWay

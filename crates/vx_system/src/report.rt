@@ -1,12 +1,11 @@
 ghost use Rattle.std.specs.Prelude.{◌≡◌, ◌+◌, ◌<◌, ◌++◌, ◌∷◌, [], codes, decimal, length, IfOk, OnOk, Some, None, string_bytes};
 ghost use Rattle.vx_base.specs.Hex.{hex_digits};
-ghost use Rattle.vx_machine.specs.Accounts.{account_with, standing_of};
+ghost use Rattle.vx_machine.specs.Accounts.{standing_of};
 ghost use Rattle.vx_system.specs.Told.{told};
 ghost use Rattle.vx_words.specs.Lines.{line};
 ghost use Rattle.vx_machine.specs.Report.{standing_words, count_words, process_text, measure_word, stop_word, report};
 
 use std::alloc::{AllocError, Global};
-use vx_alone::Alone;
 use vx_base::{Bytes, Fault, push_hex};
 use vx_flat::End;
 use vx_machine::{Costs, Measure, Stop};
@@ -211,28 +210,18 @@ fn push_total(
     Ok(())
 }
 
-/// The report's bytes of one process with these costs, which stopped so at this total.
+/// The report's bytes of one process, which stopped so at this total.
 pub fn report(
     alloc: Global,
-    process: &Alone,
-    costs: Option<Costs>,
+    process: &ProcessReport<'_>,
     total: u64,
     measure: Measure,
     stop: Stop,
 ) -> Result<Bytes, AllocError>
-    ensures { IfOk result (λ text. text ≡ report (account_with costs process.now ∷ []) total measure stop) }
+    ensures { IfOk result (λ text. text ≡ report (told process.now ∷ []) total measure stop) }
 {
     let mut text = Vec::new(alloc);
-    let arch = process.arch();
-    let told = ProcessReport {
-        over: process.over(),
-        pc: arch.pc,
-        vstart: arch.v.vstart(),
-        instructions: process.count(),
-        costs,
-        output: process.output(),
-    };
-    push_process(alloc, &mut text, 0, &told)?;
+    push_process(alloc, &mut text, 0, process)?;
     push_total(alloc, &mut text, total, measure, stop)?;
     Ok(Bytes::of(text))
 }

@@ -3,7 +3,7 @@ ghost use Rattle.vx_machine.specs.Accounts.{account_alone};
 ghost use Rattle.vx_machine.specs.Report.{report};
 ghost use Rattle.vx_system.specs.Solo.{RunsAlone};
 
-use crate::report::report;
+use crate::report::{ProcessReport, report};
 use std::alloc::{AllocError, Global};
 use vx_alone::Alone;
 use vx_base::Bytes;
@@ -29,12 +29,14 @@ pub fn run_alone(process: &mut Alone, budget: u64) -> Stop
 pub fn report_alone(alloc: Global, process: &Alone, stop: Stop) -> Result<Bytes, AllocError>
     ensures { IfOk result (λ text. text ≡ report (account_alone process.now ∷ []) process.now.count (Measure.Instructions) stop) }
 {
-    report(
-        alloc,
-        process,
-        None,
-        process.count(),
-        Measure::Instructions,
-        stop,
-    )
+    let arch = process.arch();
+    let told = ProcessReport {
+        over: process.over(),
+        pc: arch.pc,
+        vstart: arch.v.vstart(),
+        instructions: process.count(),
+        costs: None,
+        output: process.output(),
+    };
+    report(alloc, &told, process.count(), Measure::Instructions, stop)
 }

@@ -14,11 +14,17 @@ pub fn words_of(alloc: Global, line: &str) -> Result<Vec<String>, AllocError> {
 
 #[test]
 fn words_are_read(rt: HostRuntime) -> Result<(), Fail> {
-    let words = words_of(rt.alloc(), "run --budget=70 --lanes 1 --window=1 raw:hi")?;
+    let words = words_of(
+        rt.alloc(),
+        "run --budget=70 --lanes 1 --frames 64 --window=1 raw:hi",
+    )?;
     let all = RunWords {
         vlen: None,
         window: Some(1),
         lanes: Some(1),
+        banks: None,
+        bank_time: None,
+        frames: Some(64),
         budget: Some(70),
         image: ImageWord::Raw("hi"),
     };
@@ -31,6 +37,9 @@ fn words_are_read(rt: HostRuntime) -> Result<(), Fail> {
         vlen: Some(128),
         window: None,
         lanes: None,
+        banks: None,
+        bank_time: None,
+        frames: None,
         budget: Some(70),
         image: ImageWord::Elf("e"),
     };

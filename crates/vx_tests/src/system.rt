@@ -2,6 +2,7 @@ use crate::alone::HI;
 use std::test::Fail;
 use vx_alone::Alone;
 use vx_base::Options;
+use vx_cells::VecCells;
 use vx_image::raw_image;
 use vx_system::{Stop, System, report_alone, run_alone};
 
@@ -9,11 +10,14 @@ use vx_system::{Stop, System, report_alone, run_alone};
 fn a_system_runs_to_its_end(rt: HostRuntime) -> Result<(), Fail> {
     let alloc = rt.alloc();
     let image = raw_image(alloc, &HI)?;
-    let mut system = System::boot(alloc, &image, &Options::new())?;
-    let stop = system.run();
+    let mut cells = VecCells::new(alloc, 32)?;
+    let Ok(mut system) = System::boot(alloc, &image, &Options::new(), &mut cells) else {
+        return Err(Fail::from("not booted"));
+    };
+    let stop = system.run(&mut cells);
     assert_eq!(rt; stop, Stop::Done);
     let report =
-        "process 0: exited 0\n  instructions 9 cycles 164 misses 0\n  output 3\nhi\n\ntotal 264 cycles, done\n";
+        "process 0: exited 0\n  instructions 9 cycles 196 misses 0\n  output 3\nhi\n\ntotal 296 cycles, done\n";
     assert_eq!(rt; system.report(alloc, stop)?.slice(), report.as_bytes());
     Ok(())
 }

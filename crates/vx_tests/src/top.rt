@@ -7,7 +7,8 @@ use crate::read::words_of;
 use std::alloc::{AllocError, Global};
 use std::test::Fail;
 use vx_base::{Bytes, MemShelf, MemSink, NamedFile, Text};
-use vx_top::{Status, vexec};
+use vx_cells::VecCells;
+use vx_top::{Status, frames_for, vexec};
 
 /// A shelf of the program `hi`, whose fetches with these numbers fail.
 fn shelf(alloc: Global, fails: Vec<u64>) -> Result<MemShelf, AllocError> {
@@ -33,7 +34,7 @@ struct Outcome {
     note: MemSink,
 }
 
-/// Calls `vexec` with the words, which lie between spaces.
+/// Calls `vexec` with the words, which lie between spaces, and 32 frames.
 fn call(
     alloc: Global,
     words: &str,
@@ -42,7 +43,15 @@ fn call(
     mut note: MemSink,
 ) -> Result<Outcome, AllocError> {
     let list = words_of(alloc, words)?;
-    let status = vexec(alloc, list.as_slice(), &mut shelf, &mut out, &mut note);
+    let mut cells = VecCells::new(alloc, 32)?;
+    let status = vexec(
+        alloc,
+        list.as_slice(),
+        &mut shelf,
+        &mut out,
+        &mut note,
+        &mut cells,
+    );
     Ok(Outcome { status, out, note })
 }
 
@@ -81,5 +90,20 @@ fn a_fault_of_the_shelf_is_told(rt: HostRuntime) -> Result<(), Fail> {
     assert_eq!(rt; refused.status, Status::ReadFault);
     assert_eq!(rt; refused.out.bytes().len(), 0);
     assert_eq!(rt; refused.note.bytes(), b"vexec: ".as_slice());
+    Ok(())
+}
+
+#[test]
+fn words_ask_for_frames(rt: HostRuntime) -> Result<(), Fail> {
+    let alloc = rt.alloc();
+    for (words, frames) in [
+        ("run --frames 21 raw:hi", 21),
+        ("run raw:hi", 4096),
+        ("alone raw:hi", 0),
+        ("dis hi", 0),
+    ] {
+        let list = words_of(alloc, words)?;
+        assert_eq!(rt; frames_for(list.as_slice()), frames, "{words}");
+    }
     Ok(())
 }

@@ -11,11 +11,12 @@ use Rattle.vx_words.specs.declared.image_job.ImageJob.{ImageJob}
 -- the options have the run's numbers, and else their defaults
 pub record AreFor (options : Options) (run : RunWords) : Type 0 where
   pub vlen : options.vlen ≡ unwrap_or run.vlen 256
-  pub lanes : options.lanes ≡ unwrap_or run.lanes 1
-  pub banks : options.banks ≡ 8
-  pub bank_time : options.bank_time ≡ 4
+  pub lanes : options.lanes ≡ unwrap_or run.lanes 4
+  pub banks : options.banks ≡ unwrap_or run.banks 8
+  pub bank_time : options.bank_time ≡ unwrap_or run.bank_time 4
   pub window : options.window ≡ unwrap_or run.window 1
   pub slice : options.slice ≡ 10000
+  pub frames : options.frames ≡ unwrap_or run.frames 4096
   pub budget : options.budget ≡ unwrap_or run.budget 1000000000
 
 pub settled : (job : ImageJob) (words : List (List ℕ)) (run : RunWords) (read : AreRead job words run) (options : Options) → AreFor options run → settings_of options ≡ settings_for read.givens
@@ -24,11 +25,15 @@ settled job words run read options for =
     let vlen = read.vlen in
     let lanes = read.lanes in
     let window = read.window in
+    let banks = read.banks in
+    let bank_time = read.bank_time in
+    let frames = read.frames in
     let budget = read.budget in
     let l = for.lanes in
     let b = for.banks in
     let t = for.bank_time in
     let w = for.window in
     let s = for.slice in
+    let f = for.frames in
     let g = for.budget in
     cc

@@ -16,49 +16,50 @@ use Rattle.vx_words.specs.Notes.{file_limit}
 use Rattle.vx_words.specs.Words.{AskFor}
 use Rattle.vx_words.specs.Words.Command.{Asm}
 use Rattle.vx_words.specs.declared.status.Status.{Status}
-use Rattle.vx_words.specs.declared.status.Status.TheVariants.{Done, Usage, ReadFault, BadImage, WriteFault, Spent, NoMemory, BadSource}
+use Rattle.vx_words.specs.declared.status.Status.TheVariants.{Done, Usage, ReadFault, BadImage, WriteFault, Spent, NoMemory, BadSource, TooFewFrames}
 
 -- all bytes stand before an offset past them
 pub take_past : (n : ℕ) (bytes : List ℕ) → length bytes ≤ n → bytes ≡ take n bytes
 take_past n bytes past = sym (take_all n bytes past)
 
 -- the file was told
-Claims-file : (words : List (List ℕ)) (name : List ℕ) (asks : AskFor words (Asm name)) (before after : Devices) (bytes : List ℕ) (answer : Status) → Reads before.shelf after.shelf name file_limit bytes → faults bytes ≡ [] → TellsFile before.out after.out before.note after.note (written (assembled bytes)) answer → Claims words before after answer
-Claims-file words name asks before after bytes Done read none told = record {
+Claims-file : (words : List (List ℕ)) (name : List ℕ) (asks : AskFor words (Asm name)) (before after : Devices) (bytes : List ℕ) (answer : Status) → after.cells ≡ before.cells → Reads before.shelf after.shelf name file_limit bytes → faults bytes ≡ [] → TellsFile before.out after.out before.note after.note (written (assembled bytes)) answer → Claims words before after answer
+Claims-file words name asks before after bytes Done cells read none told = record {
   text = written (assembled bytes);
-  job = inr (inr (record { name = name; asks = asks; bytes = bytes; read = read; faultless = none; writes = refl; answers = refl }));
+  job = inr (inr (record { name = name; asks = asks; bytes = bytes; read = read; faultless = none; writes = refl; cells = cells; answers = refl }));
   out = told.0;
   note = told.1;
 }
-Claims-file words name asks before after bytes WriteFault read none told = record {
+Claims-file words name asks before after bytes WriteFault cells read none told = record {
   status = Done;
   text = written (assembled bytes);
-  job = inr (inr (record { name = name; asks = asks; bytes = bytes; read = read; faultless = none; writes = refl; answers = refl }));
+  job = inr (inr (record { name = name; asks = asks; bytes = bytes; read = read; faultless = none; writes = refl; cells = cells; answers = refl }));
   out = told.0;
   note = told.1;
 }
-Claims-file words name asks before after bytes Usage read none told = absurd told
-Claims-file words name asks before after bytes ReadFault read none told = absurd told
-Claims-file words name asks before after bytes BadImage read none told = absurd told
-Claims-file words name asks before after bytes Spent read none told = absurd told
-Claims-file words name asks before after bytes NoMemory read none told = absurd told
-Claims-file words name asks before after bytes BadSource read none told = absurd told
+Claims-file words name asks before after bytes Usage cells read none told = absurd told
+Claims-file words name asks before after bytes ReadFault cells read none told = absurd told
+Claims-file words name asks before after bytes BadImage cells read none told = absurd told
+Claims-file words name asks before after bytes Spent cells read none told = absurd told
+Claims-file words name asks before after bytes NoMemory cells read none told = absurd told
+Claims-file words name asks before after bytes BadSource cells read none told = absurd told
+Claims-file words name asks before after bytes TooFewFrames cells read none told = absurd told
 
 -- the fault was told, or want of memory
-Claims-fault : (words : List (List ℕ)) (name : List ℕ) (asks : AskFor words (Asm name)) (before after : Devices) (bytes : List ℕ) (fault : Option Fault) (answer : Status) → Reads before.shelf after.shelf name file_limit bytes → Tells bytes fault → after.out ≡ before.out → TellsFault before.note after.note name bytes fault answer → Claims words before after answer
-Claims-fault words name asks before after bytes None answer read first out told =
+Claims-fault : (words : List (List ℕ)) (name : List ℕ) (asks : AskFor words (Asm name)) (before after : Devices) (bytes : List ℕ) (fault : Option Fault) (answer : Status) → after.cells ≡ before.cells → Reads before.shelf after.shelf name file_limit bytes → Tells bytes fault → after.out ≡ before.out → TellsFault before.note after.note name bytes fault answer → Claims words before after answer
+Claims-fault words name asks before after bytes None answer cells read first out told =
     HasNoMemory-asked words name (Asm name, asks, refl) before after read.asks out answer told
-Claims-fault words name asks before after bytes (Some fault) answer read first out (inl told) =
-    rw told.0 (record { name = name; asks = asks; bytes = bytes; read = read; fault = fault; first = first; out = out; note = told.1 })
-Claims-fault words name asks before after bytes (Some fault) answer read first out (inr want) =
+Claims-fault words name asks before after bytes (Some fault) answer cells read first out (inl told) =
+    rw told.0 (record { name = name; asks = asks; bytes = bytes; read = read; fault = fault; first = first; out = out; cells = cells; note = told.1 })
+Claims-fault words name asks before after bytes (Some fault) answer cells read first out (inr want) =
     HasNoMemory-asked words name (Asm name, asks, refl) before after read.asks out answer want
 
 -- the file was read, and what it gives was told
-pub Claims-source : (words : List (List ℕ)) (name : List ℕ) (asks : AskFor words (Asm name)) (before after : Devices) (bytes : List ℕ) (answer : Status) → Reads before.shelf after.shelf name file_limit bytes → TellsSource before.out after.out before.note after.note name bytes answer → Claims words before after answer
-Claims-source words name asks before after bytes answer read (inl has) = Claims-file words name asks before after bytes answer read has.faultless has.told
-Claims-source words name asks before after bytes answer read (inr has) = Claims-fault words name asks before after bytes has.fault answer read has.first has.same has.told
+pub Claims-source : (words : List (List ℕ)) (name : List ℕ) (asks : AskFor words (Asm name)) (before after : Devices) (bytes : List ℕ) (answer : Status) → after.cells ≡ before.cells → Reads before.shelf after.shelf name file_limit bytes → TellsSource before.out after.out before.note after.note name bytes answer → Claims words before after answer
+Claims-source words name asks before after bytes answer cells read (inl has) = Claims-file words name asks before after bytes answer cells read has.faultless has.told
+Claims-source words name asks before after bytes answer cells read (inr has) = Claims-fault words name asks before after bytes has.fault answer cells read has.first has.same has.told
 
 -- the file can't be read, and that was told
-pub Claims-unassembled : (words : List (List ℕ)) (name : List ℕ) (asks : AskFor words (Asm name)) (before after : Devices) (refusal : Refusal) (answer : Status) → after.out ≡ before.out → RefusesFile before.shelf after.shelf name refusal → TellsRefusal before.note after.note name refusal answer → Claims words before after answer
-Claims-unassembled words name asks before after refusal answer out cause told =
-    Claims-unread words name (Asm name, asks, refl) before after refusal answer out cause told
+pub Claims-unassembled : (words : List (List ℕ)) (name : List ℕ) (asks : AskFor words (Asm name)) (before after : Devices) (refusal : Refusal) (answer : Status) → after.out ≡ before.out → after.cells ≡ before.cells → RefusesFile before.shelf after.shelf name refusal → TellsRefusal before.note after.note name refusal answer → Claims words before after answer
+Claims-unassembled words name asks before after refusal answer out cells cause told =
+    Claims-unread words name (Asm name, asks, refl) before after refusal answer out cells cause told

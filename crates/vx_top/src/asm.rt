@@ -1,5 +1,6 @@
 ghost use Rattle.std.specs.Prelude.{◌≡◌, ℕ, List, [], IfOk, IfErr};
 ghost use Rattle.vx_asm.specs.Assembling.{Tells, fault_told};
+ghost use Rattle.vx_cells.specs.Cells.{CellsState};
 ghost use Rattle.vx_elf.specs.Writing.{written};
 ghost use Rattle.vx_language.specs.Assembly.{faults, assembled};
 ghost use Rattle.vx_machine.specs.Claim.{Claims};
@@ -76,7 +77,8 @@ fn tell_source<K: Sink, N: Sink>(
     }
 }
 
-/// Assembles the source in the file of that name. What the answer says holds for whatever words ask for it.
+/// Assembles the source in the file of that name. What the answer says holds for whatever words ask for it, and whatever
+/// physical memory there is, which stays as it was.
 pub fn asm<F: Shelf, K: Sink, N: Sink>(
     alloc: Global,
     name: &str,
@@ -84,7 +86,7 @@ pub fn asm<F: Shelf, K: Sink, N: Sink>(
     out: &mut K,
     note: &mut N,
 ) -> Status
-    ensures { (words : List (List ℕ)) → AskFor words (Asm name.now) → Claims words (record { shelf = F.state shelf.old; out = K.state out.old; note = N.state note.old }) (record { shelf = F.state shelf.new; out = K.state out.new; note = N.state note.new }) result }
+    ensures { (words : List (List ℕ)) (cells : CellsState) → AskFor words (Asm name.now) → Claims words (record { shelf = F.state shelf.old; out = K.state out.old; note = N.state note.old; cells = cells }) (record { shelf = F.state shelf.new; out = K.state out.new; note = N.state note.new; cells = cells }) result }
 {
     match read_file(alloc, name, shelf) {
         Ok(bytes) => tell_source(alloc, name, bytes.slice(), out, note),

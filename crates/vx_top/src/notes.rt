@@ -1,5 +1,5 @@
 ghost use Rattle.std.specs.Prelude.{◌≡◌, IfOk, string_bytes};
-ghost use Rattle.vx_words.specs.Notes.{bad_words, read_failed, write_failed, no_memory};
+ghost use Rattle.vx_words.specs.Notes.{bad_words, read_failed, write_failed, too_few_frames, no_memory};
 
 use std::alloc::{AllocError, Global};
 
@@ -32,4 +32,11 @@ pub fn read_failed(alloc: Global, name: &str) -> Result<String, AllocError>
     ensures { IfOk result (λ text. string_bytes text ≡ read_failed name.now) }
 {
     format!(in alloc; "vexec: {name}: read failed\n")
+}
+
+/// The note where fewer frames are there than are needed.
+pub fn too_few_frames(alloc: Global, need: u64, have: u32) -> Result<String, AllocError>
+    ensures { IfOk result (λ text. string_bytes text ≡ too_few_frames need have) }
+{
+    format!(in alloc; "vexec: frames: {need} needed, {have} given\n")
 }

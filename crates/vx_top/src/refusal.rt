@@ -3,6 +3,7 @@ ghost use Rattle.std.specs.Prelude.{◌≡◌};
 use std::alloc::AllocError;
 use vx_elf::ElfFault;
 use vx_image::ImageFault;
+use vx_system::BootFault;
 use vx_words::FileFault;
 
 /// Why a file gives no text.
@@ -12,6 +13,8 @@ pub enum Refusal {
     ReadFault,
     /// It has a fault.
     BadFile(FileFault),
+    /// It gives an image for which so many frames are needed, and fewer are there.
+    TooFewFrames(u64, u32),
     /// Memory was wanting.
     NoMemory,
 }
@@ -48,6 +51,19 @@ impl From<ImageFault> for Refusal {
         match fault {
             ImageFault::NoMemory => Refusal::NoMemory,
             _ => Refusal::BadFile(FileFault::NoImage(fault)),
+        }
+    }
+}
+
+impl From<BootFault> for Refusal {
+    ghost use Rattle.vx_top.specs.Files.{refusal_of_boot};
+
+    ghost from_gives = { λ fault refusal. refusal ≡ refusal_of_boot fault };
+
+    fn from(fault: BootFault) -> Refusal {
+        match fault {
+            BootFault::NoMemory => Refusal::NoMemory,
+            BootFault::TooFewFrames(need, have) => Refusal::TooFewFrames(need, have),
         }
     }
 }

@@ -52,6 +52,11 @@ pub fn tell_refusal<N: Sink>(alloc: Global, name: &str, refusal: Refusal, note: 
     match refusal {
         Refusal::ReadFault => tell(note, Status::ReadFault, notes::read_failed(alloc, name)),
         Refusal::BadFile(fault) => { tell(note, Status::BadImage, bad_image(alloc, name, fault)) }
+        Refusal::TooFewFrames(need, have) => tell(
+            note,
+            Status::TooFewFrames,
+            notes::too_few_frames(alloc, need, have),
+        ),
         Refusal::NoMemory => tell_want(note),
     }
 }

@@ -1,5 +1,11 @@
-use Rattle.vx_system.proofs.Steps.{StepsTo-round}
+use Rattle.vx_system.proofs.Rounds.{Moves-round}
 use Rattle.vx_system.proofs.system.System.round.Goals as goal
 
-pub returns-clause-steps : goal.returns-clause-steps
-returns-clause-steps c = StepsTo-round _ _ _ _ _ _ _ _ c.take-until.ensures.process c.take-until.ensures.later c.go-pause.ensures.steps c.finish.ensures.steps
+pub returns-clause-round : goal.returns-clause-round
+returns-clause-round g c m h =
+    let one = c.take-until.ensures.moves m h in
+    let two = c.go-ended.ensures.played _ one.stands in
+    Moves-round _ _ _ _ _ _ _ _ _ m one c.take-until.ensures.end two c.finish.ensures.finished
+
+pub returns-clause-settings : goal.returns-clause-settings
+returns-clause-settings g c = (returns-clause-round g c c.requires.stands.machine c.requires.stands.stands).settings
