@@ -35,6 +35,7 @@ pub mod TransferFetched
 pub mod TransferItems
 pub mod TransferLoop
 pub mod TransferMoving
+pub mod TransferOne
 pub mod TransferOver
 pub mod TransferPassing
 pub mod TransferReaches

@@ -1,6 +1,6 @@
 //! A vector load or store in time.
 
-ghost use Rattle.std.specs.Prelude.{◌≡◌, ℕ, ◌+◌, ◌*◌, ◌^◌, ◌<◌, ◌≤◌, ◌∷◌, List, length, slice_index_or};
+ghost use Rattle.std.specs.Prelude.{◌≡◌, ℕ, ◌+◌, ◌*◌, ◌^◌, ◌<◌, ◌≤◌, [], ◌∷◌, List, length, slice_index_or};
 ghost use Rattle.vx_cells.specs.Cells.{CellsState};
 ghost use Rattle.vx_episode.specs.Batches.{batch_started};
 ghost use Rattle.vx_episode.specs.Cycles.Cycle.{At};
@@ -78,6 +78,45 @@ pub fn go_through<C: Cells>(
     }
 }
 
+/// The same of a batch of one access.
+#[inline(always)]
+fn go_through_one<C: Cells>(
+    loads: &mut DataLookUps,
+    banks: &mut BankTimes,
+    cells: &mut C,
+    root: u32,
+    bank_time: u64,
+    want: Want,
+    started: u64,
+    item: Item,
+) -> Gone
+    requires tables { HaveTables (C.state cells.old) root }
+    requires width { 0 < item.width }
+    requires cycles { started ≤ 2 ^ 60 }
+    requires time { bank_time ≤ 2 ^ 32 }
+    requires stamps { AreBy (2 ^ 62) banks.old.stamps }
+    ensures tables { HaveTables (C.state cells.new) root }
+    ensures from { started ≤ result.looked }
+    ensures soon { result.looked ≤ started + 32 * bank_time }
+    ensures served { (last : ℕ) → AreBy last banks.old.stamps → result.looked ≤ last → result.done ≤ last + 1 + 8 * banks.old.bank_time }
+    ensures by { (last : ℕ) → AreBy last banks.old.stamps → result.done ≤ last → AreBy last banks.new.stamps }
+    ensures kept { AreOfSame banks.old banks.new }
+    ensures gone { (start : Start) (history : History) (e : Entry) (earlier : List BatchTimes) (f : Footprint) (b : Batch) → start.machine.bank_time ≡ bank_time → f.want ≡ want → AreOf (item ∷ []) b.accesses
+        → IsFetchWalk e.fetch.walk → AreReady start (e ∷ history) earlier root loads.old (C.state cells.old) → StandsFor banks.old start.machine (accesses_of earlier)
+        → HasGone start history e earlier f started b (batch_started start history earlier f b (At started)) root loads.new banks.new (C.state cells.old) (C.state cells.new) result }
+{
+    walks_commute();
+    known_accesses_are_queued();
+    let width = u64::from(item.width);
+    let looked = loads.look_one(cells, root, bank_time, want, started, item.address, width);
+    let served = banks.serve_one(looked.fate);
+    Gone {
+        looked: looked.ended,
+        done: served.done,
+        failing: served.failing,
+    }
+}
+
 /// Goes through the batch of an element of a vector load or store. The list is room for its accesses.
 pub fn go_through_element<C: Cells, S: WordFile>(
     loads: &mut DataLookUps,
@@ -111,6 +150,11 @@ pub fn go_through_element<C: Cells, S: WordFile>(
         → HasGone start history e earlier f started (element_batch t i) (batch_started start history earlier f (element_batch t i) (At started)) root loads.new banks.new (C.state cells.old) (C.state cells.new) result }
 {
     accesses_are_of_their_items();
+    if pattern.has_one_field() {
+        if let Some(item) = pattern.only(file, i) {
+            return go_through_one(loads, banks, cells, root, bank_time, want, started, item);
+        }
+    }
     pattern.fill(file, i, list);
     let _few = list.len();
     go_through(
