@@ -1,8 +1,7 @@
 -- Scalar loads and stores in the flat machine: what timing sees of one, and what its step leads to.
-use Rattle.std.proofs.Common.{◌≡◌, ℕ, Bool, true, false, List, Some, None, refl, sym, ap, subst, ◌∙◌, inl, inr}
+use Rattle.std.proofs.Common.{◌≡◌, ℕ, Bool, true, false, Some, None, refl, sym, ap, subst, ◌∙◌, inl, inr}
 use Rattle.std.specs.Prelude.{Option, if◌then◌else◌}
 use Rattle.vx_base.specs.declared.machine.Fault.{Fault}
-use Rattle.vx_decode.specs.Decoded.{decoded}
 use Rattle.vx_decode.specs.declared.instr.Instr.{Instr}
 use Rattle.vx_flat.specs.Access.{access_address, access_width, loaded}
 use Rattle.vx_flat.specs.Checks.{cause_of, checked}
@@ -12,15 +11,13 @@ use Rattle.vx_flat.specs.Outcome.{Outcome}
 use Rattle.vx_flat.specs.Outcome.Outcome.{Next, Faulted}
 use Rattle.vx_flat.specs.Scalar.{next_pc}
 use Rattle.vx_flat.specs.State.{Flat, following, register, with_register}
-use Rattle.vx_flat.specs.Step.{is_legal_as, meaning, performed, performed_as, step, upcoming, word_at_pc}
+use Rattle.vx_flat.specs.Step.{is_legal_as, meaning, performed, performed_as, step, upcoming}
 use Rattle.vx_flat.specs.declared.upcoming.Upcoming.{Upcoming}
-use Rattle.vx_flat.specs.declared.upcoming.Upcoming.TheVariants.{Denied, Illegal, Instruction}
+use Rattle.vx_flat.specs.declared.upcoming.Upcoming.TheVariants.{Instruction}
 use Rattle.vx_hart.specs.Asking.{is_service_class}
 use Rattle.vx_hart.specs.Outcomes.{outcome_next, outcome_of}
 use Rattle.vx_hart.specs.declared.progress.Progress.{Progress}
 use Rattle.vx_hart.specs.declared.progress.Progress.TheVariants as progress
-use Rattle.vx_image.specs.Pages.{permits}
-use Rattle.vx_base.specs.declared.machine.Want.TheVariants.{Fetch}
 use Rattle.vx_rows.specs.Table.{class_of}
 use Rattle.vx_rows.specs.declared.row.Class.{Class}
 use Rattle.vx_rows.specs.declared.row.Class.TheVariants as class

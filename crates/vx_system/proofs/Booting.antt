@@ -1,5 +1,5 @@
 -- The system at boot.
-use Rattle.std.proofs.Common.{◌≡◌, ℕ, ◌+◌, ◌%◌, ◌<◌, ◌≤◌, List, [], ◌∷◌, length, map, get_or, refl, sym, ap, subst, ◌∙◌, arith}
+use Rattle.std.proofs.Common.{◌≡◌, ℕ, ◌+◌, ◌%◌, ◌<◌, ◌≤◌, List, [], ◌∷◌, length, map, refl, sym, ap, subst, ◌∙◌, arith}
 use Rattle.std.proofs.lemmas.List.{get_or-map, length-map}
 use Rattle.std.specs.Prelude.{All, IsTrue, false, min, ◌++◌, Some, None}
 use Rattle.vx_base.specs.Options.{is_register_length}
@@ -12,7 +12,7 @@ use Rattle.vx_flat.specs.Boot.{booted, first_registers}
 use Rattle.vx_flat.specs.Splits.{HasPermission, IsRunnable, IsWellFormed}
 use Rattle.vx_flat.specs.declared.hart.Hart.{Hart}
 use Rattle.vx_image.specs.Images.{entry_of_page}
-use Rattle.vx_image.specs.Pages.{Image, Memory, MappedPage}
+use Rattle.vx_image.specs.Pages.{Image, Memory}
 use Rattle.vx_image.specs.Tables.{table_frames}
 use Rattle.vx_machine.specs.Machine.{booted_residency, needed_frames}
 use Rattle.vx_paged.specs.Booting.{page_frame, page_writes, residency_at}

@@ -1,26 +1,24 @@
 -- The process plays an episode.
-use Rattle.std.proofs.Common.{◌≡◌, ℕ, ◌+◌, ◌-◌, ◌^◌, ◌<◌, ◌≤◌, refl, sym, ap, ◌∙◌, subst, arith}
-use Rattle.std.specs.Prelude.{true, List, Option, Some, None}
+use Rattle.std.proofs.Common.{◌≡◌, ℕ, ◌+◌, ◌-◌, ◌^◌, ◌<◌, ◌≤◌, sym, ap, ◌∙◌, subst, arith}
+use Rattle.std.specs.Prelude.{true, List, Some, None}
 use Rattle.vx_cells.specs.Cells.{CellsState, IsMemory}
 use Rattle.vx_episode.specs.Episode.{EpisodeEnd, episode}
 use Rattle.vx_episode.specs.Organisation.{Start}
 use Rattle.vx_episode.specs.Show.{Shows}
 use Rattle.vx_episode.specs.declared.ended.Ended.{Ended}
-use Rattle.vx_episode.specs.declared.ended.Ended.TheVariants.{Service}
 use Rattle.vx_flat.specs.Process.{Process}
 use Rattle.vx_flat.specs.Splits.{IsRunnable}
-use Rattle.vx_flat.specs.declared.end.End.{End}
 use Rattle.vx_flat.specs.declared.hart.Hart.{Hart}
 use Rattle.vx_image.specs.Pages.{Image}
 use Rattle.vx_machine.specs.Accounts.{IsOfRun}
-use Rattle.vx_machine.specs.Machine.{Machine, played, start_of}
+use Rattle.vx_machine.specs.Machine.{Machine, start_of}
 use Rattle.vx_paged.specs.Framed.{IsPlacement, IsWithin}
 use Rattle.vx_paged.specs.Left.{Fits}
 use Rattle.vx_paged.specs.Placed.{IsPlacedAs}
 use Rattle.vx_paged.specs.declared.placement.FramedPage.{FramedPage}
 use Rattle.vx_pipe.specs.Left.{IsPlayable, IsShown, PlaysPlaced, end_of}
 use Rattle.vx_pipe.specs.declared.counts.Counts.{Counts}
-use Rattle.vx_system.specs.Runs.{SystemState, StandsFor, Moves, HasPlayed, IsAsking, IsSystem}
+use Rattle.vx_system.specs.Runs.{SystemState, StandsFor, HasPlayed, IsSystem}
 use Rattle.vx_tables.specs.Residency.{Residency}
 
 -- what the accounts' law says of an episode

@@ -1,11 +1,10 @@
 -- The rounds of a run, one after another.
-use Rattle.std.proofs.Common.{◌≡◌, ℕ, suc, true, false, ◌≤◌, ◌<◌, refl, sym, ap, ◌∙◌, subst}
+use Rattle.std.proofs.Common.{◌≡◌, ℕ, suc, true, false, ◌≤◌, ◌<◌, sym, ap, ◌∙◌, subst}
 use Rattle.std.specs.Prelude.{Option, Some, None, is_some, unwrap_or}
 use Rattle.vx_cells.specs.Cells.{CellsState}
 use Rattle.vx_episode.specs.Episode.{episode}
 use Rattle.vx_episode.specs.declared.ended.Ended.{Ended}
 use Rattle.vx_episode.specs.declared.ended.Ended.TheVariants.{Service}
-use Rattle.vx_flat.specs.declared.end.End.{End}
 use Rattle.vx_machine.specs.Machine.{Machine, Settings, after_ended, after_episode, played, round, rounds, start_of, stop_at, stop_of, taken}
 use Rattle.vx_machine.specs.declared.stop.Stop.{Stop}
 use Rattle.vx_machine.specs.declared.stop.Stop.TheVariants.{Done, Spent}

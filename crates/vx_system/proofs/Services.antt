@@ -1,5 +1,5 @@
 -- A service, done on the registers and the memory that physical memory shows.
-use Rattle.std.proofs.Common.{◌≡◌, ℕ, ◌+◌, ◌-◌, ◌^◌, ◌<◌, ◌≤◌, Bool, true, false, List, [], ◌∷◌, ◌++◌, length, map, get_or, refl, sym, ap, subst, ◌∙◌, arith}
+use Rattle.std.proofs.Common.{◌≡◌, ℕ, ◌+◌, ◌-◌, ◌^◌, ◌<◌, Bool, true, false, List, [], ◌++◌, length, map, get_or, refl, sym, ap, subst, ◌∙◌, arith}
 use Rattle.std.proofs.lemmas.Bool.{eqb-true, false≢true}
 use Rattle.std.proofs.lemmas.List.{append-nil, length-append, length-map, get_or-map}
 use Rattle.std.specs.Prelude.{ℤ, ◌==◌, Option, Some, None, IfSome, option_map, slice_index, if◌then◌else◌}
@@ -8,7 +8,6 @@ use Rattle.vx_base.specs.Numbers.{signed}
 use Rattle.vx_cells.specs.Cells.{CellsState}
 use Rattle.vx_decode.specs.declared.instr.Instr.{Instr}
 use Rattle.vx_episode.specs.Show.{Registers, Shows}
-use Rattle.vx_flat.specs.Outcome.{Outcome}
 use Rattle.vx_flat.specs.Outcome.Outcome.{Next, Exited}
 use Rattle.vx_flat.specs.Process.{Process, after, stepped}
 use Rattle.vx_flat.specs.Service.{service, answered}

@@ -1,5 +1,5 @@
 -- A process is taken: it goes on in its slice, or is given one.
-use Rattle.std.proofs.Common.{◌≡◌, ℕ, ◌+◌, Bool, refl, sym, ap, ◌∙◌, subst}
+use Rattle.std.proofs.Common.{◌≡◌, ℕ, ◌+◌, refl, sym, ap, ◌∙◌, subst}
 use Rattle.std.specs.Prelude.{Option, Some, None, if◌then◌else◌}
 use Rattle.vx_cells.specs.Cells.{CellsState}
 use Rattle.vx_machine.specs.Machine.{Machine, given_slice, switch_cycles, taken}
