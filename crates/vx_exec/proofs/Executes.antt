@@ -1,11 +1,12 @@
 -- A whole instruction, of the words that are made.
-use Rattle.std.proofs.Common.{◌≡◌, ℕ, ◌+◌, ◌-◌, ◌<◌, ◌≤◌, Bool, true, false, List, length, slice_index, None, sym, ap, ◌∙◌, subst, arith}
+use Rattle.std.proofs.Common.{◌≡◌, ℕ, ◌+◌, ◌-◌, ◌<◌, ◌≤◌, Bool, true, false, List, length, slice_index, None, sym, ap, ◌∙◌, subst, ⊎_elim, mul-le-mul_right, arith}
+use Rattle.std.proofs.lemmas.Bool.{cases_lt}
 use Rattle.std.specs.List.{Contains, list_any}
 use Rattle.vx_decode.specs.declared.instr.Instr.{Instr}
 use Rattle.vx_exec.specs.Executed.{reads}
-use Rattle.vx_exec.proofs.Puts.{AreKnown, with_put, words-are, place-within, all-few, count-few}
-use Rattle.vx_exec.proofs.Runs.{IsRun, run-is, untold, silent}
-use Rattle.vx_exec.specs.Runs.{run_by, with_words}
+use Rattle.vx_exec.proofs.Puts.{AreKnown, words-are, place-within, all-few, count-few}
+use Rattle.vx_exec.proofs.Runs.{IsRun, run-is, empty-by, untold, silent}
+use Rattle.vx_exec.specs.Runs.{run_by}
 use Rattle.vx_exec.specs.declared.run.Run.{Run}
 use Rattle.vx_mask.specs.Kinds.{is_telling}
 use Rattle.vx_operands.specs.Forms.{family_in}
@@ -19,8 +20,8 @@ use Rattle.vx_vector.specs.Arithmetic.{saturates, told, words_after}
 use Rattle.vx_vector.specs.Laws.{IsSound, made_words, word_saturates}
 use Rattle.vx_vector.specs.Reading.{Reading}
 use Rattle.vx_vector.specs.Words.{destination_words}
-use Rattle.vx_vstate.specs.Registers.{place_of, word_at, words_of_all}
-use Rattle.vx_vstate.specs.State.{VectorState, SettingView, finished}
+use Rattle.vx_vstate.specs.Registers.{place_of, word_at, with_words, words_of_all, words_of_register}
+use Rattle.vx_vstate.specs.State.{VectorState, SettingView, finished, with_register_words}
 
 -- what is known of a reading whose words are made
 pub record Facts (r : Reading) (run : Run) : Type 0 where
@@ -29,6 +30,7 @@ pub record Facts (r : Reading) (run : Run) : Type 0 where
   pub known : AreKnown r
   pub within : (w : ℕ) → Contains (made_words r) w → w < length (destination_words r)
   pub sat : saturates r ≡ list_any (word_saturates r) (made_words r)
+  pub empty : run.count ≡ 0 → run.first ≡ 0
 
 module _ (r : Reading) (run : Run) (f : Facts r run) where
   -- a word of the run is made
@@ -49,8 +51,17 @@ module _ (r : Reading) (run : Run) (f : Facts r run) where
   pub run-few : run.count ≤ 1024
   run-few = count-few run 1024 run-small
 
-  run-room : (k : ℕ) → k < run.count → place_of r.at.vlen r.places.vd (run.first + k) < length r.words
-  run-room k l = subst (λ n. place_of r.at.vlen r.places.vd (run.first + k) < n) (sym f.sound.count) (run-place k l)
+  pub run-room : place_of r.at.vlen r.places.vd run.first + run.count ≤ words_of_all r.at.vlen
+  run-room = ⊎_elim some none (cases_lt 0 run.count)
+    where
+      some : 0 < run.count → place_of r.at.vlen r.places.vd run.first + run.count ≤ words_of_all r.at.vlen
+      some l = let last = run-place (run.count - 1) (omega (arith, l)) in omega (arith, last, l)
+
+      none : run.count ≤ 0 → place_of r.at.vlen r.places.vd run.first + run.count ≤ words_of_all r.at.vlen
+      none l =
+          let first = f.empty (omega (arith, l)) in
+          let registers = mul-le-mul_right (words_of_register r.at.vlen) f.sound.destination.room in
+          omega (arith, first, l, registers)
 
   -- it saturates where a word of the run does
   run-sat : saturates r ≡ some_below run.count (λ k. word_saturates r (run.first + k))
@@ -71,10 +82,11 @@ module _ (r : Reading) (run : Run) (f : Facts r run) where
           any_from (word_saturates r) (made_words r) (run.first + one.0) (run-member one.0 one.1) one.2
 
   -- made, put and finished
-  pub all-done : (old new : VectorState) (values : ℕ → ℕ) (sat : Bool) → r.at.vlen ≡ old.vlen → r.words ≡ old.words → ((k : ℕ) → k < run.count → values k ≡ word_at r.at.vlen (words_after r) r.places.vd (run.first + k)) → sat ≡ some_below run.count (λ k. word_saturates r (run.first + k)) → new ≡ finished (with_put old r.places.vd run.first values run.count) 0 sat → new ≡ finished (record old { words = words_after r }) 0 (saturates r)
-  all-done old new values sat vlen words made is done =
-      let put : with_words old.vlen old.words r.places.vd run.first values run.count ≡ words_after r =
-      (λ i. with_words (sym vlen i) (sym words i) r.places.vd run.first values run.count) ∙ words-are r run values f.known f.is run-room made in
+  pub all-done : (old new : VectorState) (values : List ℕ) (sat : Bool) → r.at.vlen ≡ old.vlen → r.words ≡ old.words → length values ≡ run.count → ((k : ℕ) → k < run.count → slice_index values k ≡ word_at r.at.vlen (words_after r) r.places.vd (run.first + k)) → sat ≡ some_below run.count (λ k. word_saturates r (run.first + k)) → new ≡ finished (with_register_words old r.places.vd run.first values) 0 sat → new ≡ finished (record old { words = words_after r }) 0 (saturates r)
+  all-done old new values sat vlen words long made is done =
+      let room : place_of r.at.vlen r.places.vd run.first + length values ≤ length r.words = omega (arith, run-room, long, f.sound.count) in
+      let put : with_words old.vlen old.words r.places.vd run.first values ≡ words_after r =
+      (λ i. with_words (sym vlen i) (sym words i) r.places.vd run.first values) ∙ words-are r run values f.known f.is long room made in
       let same : sat ≡ saturates r = is ∙ sym run-sat in
       done ∙ (λ i. finished (record old { words = put i }) 0 (same i))
 
@@ -97,4 +109,5 @@ facts-for i at words family run class tells is sound inside sat count outside un
       known = record { count = count r; outside = λ p h. outside r p sound h; unmade = λ w h. unmade r w sound h };
       within = λ w c. inside r w sound (untold r none) c;
       sat = sat r sound;
+      empty = empty-by (operands_of r.family).destination at;
     })

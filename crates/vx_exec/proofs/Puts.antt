@@ -1,9 +1,9 @@
 -- Words that are made one by one and then put are those after the instruction.
-use Rattle.std.proofs.Common.{◌≡◌, ◌≢◌, ℕ, zero, suc, ◌+◌, ◌-◌, ◌*◌, ◌/◌, ◌<◌, ◌≤◌, Bool, false, [], ◌||◌, IsTrue, List, length, length-set, slice_index, slice_set, refl, sym, ap, ◌∙◌, subst, ⊎_elim, eq-or-lt_of_le, arith, mul-le-mul_right}
-use Rattle.std.specs.List.{Contains}
+use Rattle.std.proofs.Common.{◌≡◌, ℕ, zero, suc, ◌+◌, ◌-◌, ◌*◌, ◌<◌, ◌≤◌, Bool, false, [], ◌||◌, IsTrue, List, ◌++◌, length, length-append, length-drop, length-set, slice_index, slice_set, take, drop, refl, sym, ap, ◌∙◌, subst, ⊎_elim, eq-or-lt_of_le, arith, mul-le-mul_right}
+use Rattle.std.specs.List.{Contains, splice}
 use Rattle.std.proofs.lemmas.Bool.{cases_lt}
 use Rattle.std.proofs.lemmas.Grind.{get_or-set_at}
-use Rattle.std.proofs.lemmas.List.{ext_get_or, get_or-set_other}
+use Rattle.std.proofs.lemmas.List.{ext_get_or, get_or_append_left, get_or-append_right, get_or-drop, get_or-set_other, get_or-take, length-take-le}
 use Rattle.std.proofs.lemmas.List.FromFn.{length-range_with_len}
 use Rattle.vx_base.specs.Options.{is_register_length}
 use Rattle.vx_operands.proofs.Merging.{none_below}
@@ -17,9 +17,8 @@ use Rattle.vx_vector.specs.Arithmetic.{words_after}
 use Rattle.vx_vector.specs.Laws.{IsPlaced, made_words}
 use Rattle.vx_vector.specs.Reading.{Reading}
 use Rattle.vx_vector.specs.Words.{destination_words, places_of_operand, registers_of_operand}
-use Rattle.vx_vstate.specs.Registers.{place_of, word_at, with_word, words_of_all, words_of_register}
-use Rattle.vx_vstate.specs.State.{VectorState}
-use Rattle.vx_exec.specs.Runs.{IsInRun, with_words}
+use Rattle.vx_vstate.specs.Registers.{place_of, word_at, with_words, words_of_all, words_of_register}
+use Rattle.vx_exec.specs.Runs.{IsInRun}
 use Rattle.vx_exec.specs.declared.run.Run.{Run}
 use Rattle.vx_exec.proofs.Runs.{IsRun}
 
@@ -51,72 +50,40 @@ made-more f g size n value one made sat h l is also = let next : suc n ≡ n + 1
 
 -- ---- putting
 
-abbrev pub with_put : (old : VectorState) → (register first : ℕ) → (f : ℕ → ℕ) → (n : ℕ) → VectorState
-with_put old register first f n = record old { words = with_words old.vlen old.words register first f n }
+-- a word outside of those that are put, and one of them
+module _ (words values : List ℕ) (start : ℕ) (room : start + length values ≤ length words) where
+  abbrev put : List ℕ
+  put = splice words start (start + length values) values
 
-pub put-none : (old : VectorState) (register first : ℕ) (f : ℕ → ℕ) → old ≡ with_put old register first f 0
-unfolding with_words
-put-none old register first f = refl
+  front : length (take start words) ≡ start
+  front = length-take-le start words (omega (arith, room))
 
-pub put-more : (old v new : VectorState) (register first n value : ℕ) (f : ℕ → ℕ) → v ≡ with_put old register first f n → value ≡ f n → new ≡ record v { words = with_word v.vlen v.words register (first + n) value } → new ≡ with_put old register first f (n + 1)
-unfolding with_words
-put-more old v new register first n value f is same next =
-    let more : suc n ≡ n + 1 = omega arith in
-    let all : new ≡ with_put old register first f (suc n) = next ∙ (λ i. record (is i) { words = with_word (is i).vlen (is i).words register (first + n) (same i) }) in
-    subst (λ m. new ≡ with_put old register first f m) more all
+  length-put : length put ≡ length words
+  length-put =
+      omega (arith, length-append (take start words) (values ++ drop (start + length values) words), length-append values (drop (start + length values) words), front, length-drop (start + length values) words, room)
 
--- a place before the end of the registers is in one of them
-pub below-registers : (r w p : ℕ) → r * p + w < 32 * p → r < 32
-below-registers r w p h =
-    ⊎_elim
-    (λ l. l)
-    (λ m. let low = mul-le-mul_right p m in absurd (omega arith))
-    (cases_lt r 32)
+  outside : (place : ℕ) → (start ≤ place → place < start + length values → ⊥) → slice_index put place ≡ slice_index words place
+  outside place apart = ⊎_elim before (λ l. ⊎_elim (λ m. absurd (apart l m)) behind (cases_lt place (start + length values))) (cases_lt place start)
+    where
+      before : place < start → slice_index put place ≡ slice_index words place
+      before l =
+          get_or_append_left (take start words) (values ++ drop (start + length values) words) 0 place (omega (arith, front, l))
+          ∙ get_or-take start words place 0 l
 
--- the first n words are put, and the next goes to a word of a register
-pub record IsPutBelow (old v : VectorState) (register first : ℕ) (f : ℕ → ℕ) (n per r w : ℕ) : Type 0 where
-  pub is : v ≡ with_put old register first f n
-  pub place : r * per + w ≡ register * per + (first + n)
-  pub within : w < per
+      behind : start + length values ≤ place → slice_index put place ≡ slice_index words place
+      behind l =
+          let there : start + length values + (place - start - length values) ≡ place = omega (arith, l) in
+          get_or-append_right (take start words) (values ++ drop (start + length values) words) start place 0 front (omega (arith, l))
+          ∙ get_or-append_right values (drop (start + length values) words) (length values) (place - start) 0 refl (omega (arith, l))
+          ∙ get_or-drop (start + length values) words (place - start - length values) 0
+          ∙ ap (slice_index words) there
 
-pub put-next : (old v new : VectorState) (register first n value per r w next_r next_w : ℕ) (f : ℕ → ℕ) → per ≡ old.vlen / 64 → IsPutBelow old v register first f n per r w → value ≡ f n → new ≡ record v { words = with_word v.vlen v.words r w value } → next_r * per + next_w ≡ r * per + w + 1 → next_w < per → IsPutBelow old new register first f (n + 1) per next_r next_w
-put-next old v new register first n value per r w next_r next_w f size h same next behind within =
-    let vlen : v.vlen ≡ old.vlen = ap (λ (s : VectorState). s.vlen) h.is in
-    let words : per ≡ v.vlen / 64 = size ∙ ap (λ m. m / 64) (sym vlen) in
-    let place : place_of v.vlen r w ≡ place_of v.vlen register (first + n) = ap (λ p. r * p + w) (sym words) ∙ h.place ∙ ap (λ p. register * p + (first + n)) words in
-    let moved : new ≡ record v { words = with_word v.vlen v.words register (first + n) value } = next ∙ ap (λ p. record v { words = slice_set v.words p value }) place in
-    record {
-      is = put-more old v new register first n value f h.is same moved;
-      place = behind ∙ ap (λ m. m + 1) h.place ∙ omega arith;
-      within = within;
-    }
-
--- ---- what was put
-
-length-words : (vlen : ℕ) (words : List ℕ) (register first : ℕ) (f : ℕ → ℕ) (n : ℕ) → length (with_words vlen words register first f n) ≡ length words
-unfolding with_words
-length-words vlen words register first f zero = refl
-length-words vlen words register first f (suc n) =
-    length-set (with_words vlen words register first f n) (place_of vlen register (first + n)) (f n) ∙ length-words vlen words register first f n
-
-outside : (vlen : ℕ) (words : List ℕ) (register first : ℕ) (f : ℕ → ℕ) (place n : ℕ) → ((k : ℕ) → k < n → place_of vlen register (first + k) ≢ place) → slice_index (with_words vlen words register first f n) place ≡ slice_index words place
-unfolding with_words
-outside vlen words register first f place zero apart = refl
-outside vlen words register first f place (suc n) apart =
-    get_or-set_other (with_words vlen words register first f n) (place_of vlen register (first + n)) place (f n) 0 (λ e. apart n (omega arith) (sym e))
-    ∙ outside vlen words register first f place n (λ k l. apart k (omega arith))
-
-inside : (vlen : ℕ) (words : List ℕ) (register first : ℕ) (f : ℕ → ℕ) (n k : ℕ) → k < n → place_of vlen register (first + k) < length words → slice_index (with_words vlen words register first f n) (place_of vlen register (first + k)) ≡ f k
-unfolding with_words
-inside vlen words register first f zero k l room = absurd (omega (arith, l))
-inside vlen words register first f (suc n) k l room =
-    let before = with_words vlen words register first f n in
-    let at_most : k ≤ n = omega arith in
-    let long : length before ≡ length words = length-words vlen words register first f n in
-    ⊎_elim
-    (λ e. get_or-set_at before (place_of vlen register (first + n)) (place_of vlen register (first + k)) (f n) 0 (ap (λ m. place_of vlen register (first + m)) e) (subst (λ m. place_of vlen register (first + m) < length before) e (subst (λ m. place_of vlen register (first + k) < m) (sym long) room)) ∙ ap f (sym e))
-    (λ less. get_or-set_other before (place_of vlen register (first + n)) (place_of vlen register (first + k)) (f n) 0 (λ e. omega (arith, e, less)) ∙ inside vlen words register first f n k less room)
-    (eq-or-lt_of_le at_most)
+  inside : (k : ℕ) → k < length values → slice_index put (start + k) ≡ slice_index values k
+  inside k l =
+      let back : start + k - start ≡ k = omega arith in
+      get_or-append_right (take start words) (values ++ drop (start + length values) words) start (start + k) 0 front (omega arith)
+      ∙ ap (slice_index (values ++ drop (start + length values) words)) back
+      ∙ get_or_append_left values (drop (start + length values) words) 0 k l
 
 -- what is known of the words after an instruction
 pub record AreKnown (r : Reading) : Type 0 where
@@ -134,9 +101,9 @@ not-before r other register place l c =
     let parts = range_parts (place_of r.at.vlen register 0) (registers_of_operand r other * words_of_register r.at.vlen) place c in
     omega (arith, parts.0, l)
 
-pub words-are : (r : Reading) (run : Run) (f : ℕ → ℕ) → AreKnown r → IsRun r run → ((k : ℕ) → k < run.count → place_of r.at.vlen r.places.vd (run.first + k) < length r.words) → ((k : ℕ) → k < run.count → f k ≡ word_at r.at.vlen (words_after r) r.places.vd (run.first + k)) → with_words r.at.vlen r.words r.places.vd run.first f run.count ≡ words_after r
-words-are r run f known is room made =
-    ext_get_or 0 new (words_after r) (length-words r.at.vlen r.words vd run.first f run.count ∙ sym known.count) (λ place l. ⊎_elim (before place) (behind place) (cases_lt place base))
+pub words-are : (r : Reading) (run : Run) (values : List ℕ) → AreKnown r → IsRun r run → length values ≡ run.count → place_of r.at.vlen r.places.vd run.first + length values ≤ length r.words → ((k : ℕ) → k < run.count → slice_index values k ≡ word_at r.at.vlen (words_after r) r.places.vd (run.first + k)) → with_words r.at.vlen r.words r.places.vd run.first values ≡ words_after r
+words-are r run values known is long room made =
+    ext_get_or 0 new (words_after r) (length-put r.words values start room ∙ sym known.count) (λ place l. ⊎_elim (before place) (behind place) (cases_lt place base))
   where
     vd : ℕ
     vd = r.places.vd
@@ -144,17 +111,20 @@ words-are r run f known is room made =
     base : ℕ
     base = place_of r.at.vlen vd 0
 
+    start : ℕ
+    start = place_of r.at.vlen vd run.first
+
     new : List ℕ
-    new = with_words r.at.vlen r.words vd run.first f run.count
+    new = with_words r.at.vlen r.words vd run.first values
 
     before : (place : ℕ) → place < base → slice_index new place ≡ slice_index (words_after r) place
     before place l =
-        outside r.at.vlen r.words vd run.first f place run.count (λ k b e. omega (arith, e, l))
+        outside r.words values start room place (λ h m. omega (arith, h, l))
         ∙ sym (known.outside place (not-before r (operands_of r.family).destination vd place l))
 
     unmade : (w : ℕ) → (IsInRun run w → ⊥) → slice_index new (place_of r.at.vlen vd w) ≡ slice_index (words_after r) (place_of r.at.vlen vd w)
     unmade w none =
-        outside r.at.vlen r.words vd run.first f (place_of r.at.vlen vd w) run.count (λ k b e. none (omega (arith, e, b), omega (arith, e, b)))
+        outside r.words values start room (place_of r.at.vlen vd w) (λ h m. none (omega (arith, h), omega (arith, m, long)))
         ∙ sym (known.unmade w (λ c. none (is.holds w c)))
 
     at-word : (w : ℕ) → slice_index new (place_of r.at.vlen vd w) ≡ slice_index (words_after r) (place_of r.at.vlen vd w)
@@ -166,8 +136,12 @@ words-are r run f known is room made =
         (λ high.
         let k = w - run.first in
         let back : run.first + k ≡ w = omega arith in
+        let there : start + k ≡ place_of r.at.vlen vd w = omega (arith, back) in
         let less : k < run.count = omega arith in
-        subst (λ m. slice_index new (place_of r.at.vlen vd m) ≡ slice_index (words_after r) (place_of r.at.vlen vd m)) back (inside r.at.vlen r.words vd run.first f run.count k less (room k less) ∙ made k less))
+        ap (slice_index new) (sym there)
+        ∙ inside r.words values start room k (omega (arith, less, long))
+        ∙ made k less
+        ∙ ap (word_at r.at.vlen (words_after r) vd) back)
         (λ past. unmade w (λ h. omega (arith, h.1, past)))
         (cases_lt w (run.first + run.count)))
         (cases_lt w run.first)

@@ -2,6 +2,7 @@
 use Rattle.std.proofs.Common.{◌≡◌, ℕ, zero, suc, ◌+◌, ◌-◌, ◌<◌, ◌≤◌, Bool, true, false, ltb, nat_eq, if◌then◌else◌, List, [], ◌∷◌, map, None, refl, sym, ap, ◌∙◌, subst, arith, mul-le-mul_right}
 use Rattle.std.specs.List.{Contains, range_with_len}
 use Rattle.std.proofs.lemmas.Bool.{false≢true, ltb-true}
+use Rattle.vx_decode.specs.Groups.{width_of}
 use Rattle.vx_mask.specs.Kinds.{is_element, is_telling}
 use Rattle.vx_operands.specs.Rising.{is_first_alone}
 use Rattle.vx_packed.specs.Joined.{some_below}
@@ -19,7 +20,8 @@ use Rattle.vx_vector.specs.Rules.Rule.{Each, Index, Permute as Permutes, Reduce,
 use Rattle.vx_vector.specs.Words.{handled_by, made_by}
 use Rattle.vx_vstate.specs.Registers.{element_word}
 use Rattle.vx_vstate.specs.State.{SettingView}
-use Rattle.vx_exec.specs.Runs.{IsInRun, count_by, run_of, run_by}
+use Rattle.vx_vstate.specs.Vtype.{sew}
+use Rattle.vx_exec.specs.Runs.{IsInRun, count_by, run_of, run_by, words_from}
 use Rattle.vx_exec.specs.declared.run.Run.{Run}
 
 -- ---- rules and operands
@@ -131,6 +133,24 @@ some-word width from count h =
     let most : from ≤ count - 1 = omega arith in
     let product = mul-le-mul_right width most in
     omega arith
+
+-- a run of no words begins at 0
+empty-if : (holds : Bool) (run : Run) → (holds ≡ true → run.count ≡ 0 → run.first ≡ 0) → (if holds then run else record { first = 0; count = 0 }).count ≡ 0 → (if holds then run else record { first = 0; count = 0 }).first ≡ 0
+empty-if true run h e = h refl e
+empty-if false run h e = refl
+
+one-or : (is_one : Bool) (run : Run) → 0 < run.count → 0 < (if is_one then record { first = 0; count = 1 } else run).count
+one-or true run h = omega arith
+one-or false run h = h
+
+pub empty-by : (o : Operand) (at : SettingView) → (run_by o at).count ≡ 0 → (run_by o at).first ≡ 0
+empty-by o at =
+    let width = width_of o (sew at.vtype) in
+    let count = count_by o at in
+    let run = words_from width at.vstart count in
+    empty-if (ltb at.vstart count) (if is_element o then record { first = 0; count = 1 } else run) (λ h none.
+    let some = one-or (is_element o) run (some-word width at.vstart count h) in
+    absurd (omega (arith, some, none)))
 
 -- ---- the run of a rule
 

@@ -1,11 +1,10 @@
--- The words of its destination that an instruction makes are one run. How it is found, and how words are put, is this project's
--- own.
-use Rattle.std.specs.Prelude.{ℕ, zero, suc, ◌+◌, ◌-◌, ◌*◌, ◌/◌, ◌<◌, ◌≤◌, Bool, ◌==◌, nat_lt, List, if◌then◌else◌}
+-- The words of its destination that an instruction makes are one run. How it is found is this project's own.
+use Rattle.std.specs.Prelude.{ℕ, ◌+◌, ◌-◌, ◌*◌, ◌/◌, ◌<◌, ◌≤◌, Bool, ◌==◌, nat_lt, if◌then◌else◌}
 use Rattle.vx_decode.specs.Groups.{width_of}
 use Rattle.vx_mask.specs.Kinds.{is_element}
 use Rattle.vx_rows.specs.declared.family.Operand.{Operand}
 use Rattle.vx_vector.specs.Reading.{whole_registers}
-use Rattle.vx_vstate.specs.Registers.{element_word, with_word}
+use Rattle.vx_vstate.specs.Registers.{element_word}
 use Rattle.vx_vstate.specs.State.{SettingView}
 use Rattle.vx_vstate.specs.Vtype.{sew}
 use Rattle.vx_exec.specs.declared.run.Run.{Run}
@@ -32,9 +31,3 @@ run_of is_one width from count =
 abbrev pub run_by : Operand → SettingView → Run
 run_by destination at =
     run_of (is_element destination) (width_of destination (sew at.vtype)) at.vstart (count_by destination at)
-
--- the words with so many put, one behind another, of a group that begins at a register
-unfoldable pub with_words : (vlen : ℕ) → (words : List ℕ) → (register first : ℕ) → (value : ℕ → ℕ) → (count : ℕ) → List ℕ
-with_words vlen words register first value zero = words
-with_words vlen words register first value (suc n) =
-    with_word vlen (with_words vlen words register first value n) register (first + n) (value n)

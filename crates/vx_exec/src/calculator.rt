@@ -1,8 +1,7 @@
 //! A whole instruction of vector arithmetic, done on the vector state.
 
-ghost use Rattle.std.specs.Prelude.{◌≡◌, ℕ, ◌+◌, ◌*◌, ◌<◌, ◌≤◌, ◌||◌, false, length, slice_index, vec_len, None};
+ghost use Rattle.std.specs.Prelude.{◌≡◌, ℕ, ◌+◌, ◌<◌, ◌≤◌, ◌||◌, false, length, slice_index, vec_len, None};
 ghost use Rattle.vx_exec.specs.Executed.{IsExecutable, reads};
-ghost use Rattle.vx_exec.specs.Runs.{with_words};
 ghost use Rattle.vx_mask.specs.Kinds.{is_telling};
 ghost use Rattle.vx_packed.specs.Joined.{some_below};
 ghost use Rattle.vx_rows.specs.Table.{class_of};
@@ -11,7 +10,7 @@ ghost use Rattle.vx_rows.specs.declared.row.Class.TheVariants.{VectorArithmetic}
 ghost use Rattle.vx_vector.specs.Arithmetic.{saturates, told, words_after};
 ghost use Rattle.vx_vector.specs.Laws.{word_saturates};
 ghost use Rattle.vx_vector.specs.Words.{destination_words};
-ghost use Rattle.vx_vstate.specs.Registers.{place_of, with_word, word_at, words_of_all};
+ghost use Rattle.vx_vstate.specs.Registers.{word_at};
 ghost use Rattle.vx_vstate.specs.State.{finished, setting_of};
 ghost use Rattle.vx_vstate.specs.Views.{view_of};
 
@@ -85,7 +84,7 @@ fn write(i: &Instr, family: Family, at: &Setting, v: &mut VState, made: &mut [u6
     reads_soundly(i, at, &*v);
     let run = run_by(family, at);
     let sat = make(i, at, &*v, run, made);
-    put(v, i.rd, run, made);
+    v.put_words(i.rd, run.first, &made[..run.count as usize]);
     v.finish(0, sat);
 }
 
@@ -249,70 +248,12 @@ fn make(i: &Instr, at: &Setting, v: &VState, run: Run, made: &mut [u64]) -> bool
     ensures sat { result ≡ some_below run.count (λ k. word_saturates (reads i.now (view_of at.now) v.now.words) (run.first + k)) }
 {
     let done = make_full(i, at, v, run, made);
+    if done == run.count {
+        return false;
+    }
     match i.op {
         Op::Elem(op) => make_elements(op, i, at, v, run, done, made),
         Op::Perm(op) => make_permuted(op, i, at, v, run, done, made),
         _ => make_of(i.op, i, at, v, run, done, made),
-    }
-}
-
-/// A word of a register.
-#[derive(Clone, Copy, PartialEq, Eq, Debug)]
-struct Spot {
-    register: u8,
-    w: u32,
-}
-
-/// Where word `w` of the group that begins at a register stands, of registers of so many words.
-#[inline(always)]
-fn spot_of(per_register: u32, register: u8, w: u32) -> Spot
-    requires some { 0 < per_register }
-    requires below { register * per_register + w < 32 * per_register }
-    ensures is { result.register * per_register + result.w ≡ register * per_register + w }
-    ensures within { result.w < per_register }
-{
-    Spot {
-        register: register + (w / per_register) as u8,
-        w: w % per_register,
-    }
-}
-
-/// The word behind a word.
-#[inline(always)]
-fn behind(per_register: u32, at: Spot) -> Spot
-    requires within { at.w < per_register }
-    requires register { at.register < 32 }
-    ensures is { result.register * per_register + result.w ≡ at.register * per_register + at.w + 1 }
-    ensures within { result.w < per_register }
-{
-    if at.w + 1 < per_register {
-        Spot {
-            register: at.register,
-            w: at.w + 1,
-        }
-    } else {
-        Spot {
-            register: at.register + 1,
-            w: 0,
-        }
-    }
-}
-
-/// Puts words into a run of a group that begins at a register.
-#[inline(always)]
-fn put(v: &mut VState, register: u8, run: Run, words: &[u64])
-    requires within { (k : ℕ) → k < run.count → place_of v.old.vlen register (run.first + k) < words_of_all v.old.vlen }
-    requires small { (k : ℕ) → k < run.count → run.first + k < 1024 }
-    requires room { run.count ≤ length words.now }
-    ensures { v.new ≡ record v.old { words = with_words v.old.vlen v.old.words register run.first (slice_index words.now) run.count } }
-{
-    if run.count == 0 {
-        return;
-    }
-    let per_register = v.vlen() / 64;
-    let mut at = spot_of(per_register, register, run.first);
-    for k in 0..run.count {
-        v.put_word(at.register, at.w, words[k as usize]);
-        at = behind(per_register, at);
     }
 }

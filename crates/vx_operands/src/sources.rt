@@ -22,8 +22,7 @@ pub fn group_word<S: WordFile>(file: &S, at: &Setting, register: u8, w: u32) -> 
     requires within { place_of at.now.vlen register w < words_of_all at.now.vlen }
     ensures { result ≡ word_at at.now.vlen (S.words file.now) register w }
 {
-    let per_register = at.vlen / 64;
-    file.word(register + (w / per_register) as u8, w % per_register)
+    file.word(register, w)
 }
 
 /// Word `w` of the group that begins at a register is a number of 64 bits.

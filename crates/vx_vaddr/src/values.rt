@@ -64,11 +64,8 @@ pub fn put_loaded(v: &mut VState, item: &Item, value: u64)
     requires placed { IsPlacedAccess v.old.vlen (access_of_item item.now) }
     ensures { v.new ≡ record v.old { words = with_loaded v.old.vlen v.old.words (access_of_item item.now) value } }
 {
-    let per_register = v.vlen() / 64;
     let w = item.byte / 8;
-    let register = item.register + (w / per_register) as u8;
-    let within = w % per_register;
-    let old = v.word(register, within);
+    let old = v.word(item.register, w);
     let new = with_field(old, item.byte % 8 * 8, 8 * u32::from(item.width), value);
-    v.put_word(register, within, new);
+    v.put_word(item.register, w, new);
 }

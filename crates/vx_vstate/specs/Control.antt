@@ -1,6 +1,6 @@
 -- The vector control registers, one line each: number, name, what is read, and which bits are kept of what is written.
 -- RISC-V "V" 1.0, sections 3 to 3.10; vstart keeps the low bits that number the bits of a register, log2 of VLEN of them.
-use Rattle.std.specs.Prelude.{ℕ, ◌+◌, ◌*◌, ◌/◌, ◌%◌, Bool, ◌==◌, Option, Some, None, option_map, option_and_then, if◌then◌else◌}
+use Rattle.std.specs.Prelude.{ℕ, ◌+◌, ◌*◌, ◌/◌, ◌%◌, ◌==◌, Option, Some, None, option_map, option_and_then, if◌then◌else◌}
 use Rattle.vx_base.specs.Numbers.{truth}
 use Rattle.vx_vstate.specs.State.{VectorState}
 

@@ -1,7 +1,8 @@
 -- The vector registers and their elements: RISC-V "V" 1.0, sections 3.1 and 4. The 32 registers of VLEN bits are one list
 -- of words of 64 bits, those of a register one behind another; elements of any width, masks' bits too (width 1), are
 -- fields of words.
-use Rattle.std.specs.Prelude.{ℕ, zero, suc, ◌+◌, ◌*◌, ◌/◌, ◌%◌, ◌^◌, ◌≤◌, ◌≢◌, ◌⊎◌, Bool, ◌==◌, ◌||◌, List, [], ◌∷◌, replicate, slice_index, slice_set}
+use Rattle.std.specs.Prelude.{ℕ, zero, suc, ◌+◌, ◌*◌, ◌/◌, ◌%◌, ◌^◌, ◌≤◌, ◌≢◌, ◌⊎◌, Bool, ◌==◌, ◌||◌, List, [], ◌∷◌, length, replicate, slice_index, slice_set}
+use Rattle.std.specs.List.{splice}
 use Rattle.vx_base.specs.Numbers.{field}
 use Rattle.vx_base.specs.Page.{byte_of_words}
 
@@ -41,6 +42,12 @@ with_field n low count value = n / 2 ^ (low + count) * 2 ^ (low + count) + value
 -- the words with a word set
 abbrev pub with_word : (vlen : ℕ) → (words : List ℕ) → (register w value : ℕ) → List ℕ
 with_word vlen words register w value = slice_set words (place_of vlen register w) value
+
+-- the words with values put one behind another, from word w on
+abbrev pub with_words : (vlen : ℕ) → (words : List ℕ) → (register w : ℕ) → (values : List ℕ) → List ℕ
+with_words vlen words register w values =
+    let place = place_of vlen register w in
+    splice words place (place + length values) values
 
 -- the words with an element set
 abbrev pub with_element : (vlen : ℕ) → (words : List ℕ) → (register width index value : ℕ) → List ℕ

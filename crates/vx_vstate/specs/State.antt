@@ -2,7 +2,7 @@
 use Rattle.std.specs.Prelude.{◌≡◌, ℕ, ◌<◌, ◌≤◌, List, length, Bool, false, ◌||◌, IsTrue}
 use Rattle.vx_base.specs.Options.{is_register_length}
 use Rattle.vx_vstate.specs.Configuration.{Configuration, configured}
-use Rattle.vx_vstate.specs.Registers.{no_words, words_of_all, with_word}
+use Rattle.vx_vstate.specs.Registers.{no_words, words_of_all, with_word, with_words}
 use Rattle.vx_vstate.specs.Vtype.{vill, is_vtype, most_elements}
 use Rattle.vx_vstate.specs.declared.avl.Avl.{Avl}
 
@@ -71,3 +71,7 @@ reconfigured s avl wanted =
 -- a word of a register set
 abbrev pub with_register_word : VectorState → (register w value : ℕ) → VectorState
 with_register_word s register w value = record s { words = with_word s.vlen s.words register w value }
+
+-- words of a group set, one behind another
+abbrev pub with_register_words : VectorState → (register w : ℕ) → (values : List ℕ) → VectorState
+with_register_words s register w values = record s { words = with_words s.vlen s.words register w values }

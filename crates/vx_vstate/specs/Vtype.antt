@@ -1,5 +1,6 @@
 -- vtype, and what it says of elements and groups: RISC-V "V" 1.0, section 3.4. Which numbers are accepted is that
--- section's, for elements of 64 bits at the most (section 18.2, Zve64x).
+-- section's, for elements of 64 bits at the most (section 18.2, Zve64x); that under an LMUL below 1 no SEW above 64 * LMUL is
+-- accepted is a choice that it leaves.
 use Rattle.std.specs.Prelude.{ℕ, ◌-◌, ◌*◌, ◌/◌, ◌^◌, Bool, not, ◌==◌, ◌&&◌, ◌||◌, nat_lt, nat_le, if◌then◌else◌}
 use Rattle.vx_base.specs.Numbers.{field}
 

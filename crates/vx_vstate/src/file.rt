@@ -1,5 +1,5 @@
 ghost use Rattle.std.specs.Prelude.{◌≡◌, ℕ, ◌<◌, List, length};
-ghost use Rattle.vx_vstate.specs.Registers.{words_of_register, words_of_all, place_of, word_at};
+ghost use Rattle.vx_vstate.specs.Registers.{words_of_all, place_of, word_at};
 
 /// The words of the 32 vector registers, for reading.
 pub trait WordFile {
@@ -9,20 +9,16 @@ pub trait WordFile {
     /// The words of all registers, those of a register one behind another. A word that the file doesn't know is 0.
     ghost words: { Self → List ℕ };
 
-    /// Word `w` of register `r`, 64 bits, from 0.
+    /// Word `w` of the group that begins at register `r`, 64 bits, from 0.
     fn word(&self, r: u8, w: u32) -> u64
-        requires register { r < 32 }
-        requires within { w < words_of_register (vlen self.now) }
+        requires within { place_of (vlen self.now) r w < words_of_all (vlen self.now) }
         ensures is { result ≡ word_at (vlen self.now) (words self.now) r w }
         ensures all { length (words self.now) ≡ words_of_all (vlen self.now) };
 }
 
-/// Where word `w` of register `r` stands among the words of all.
+/// Where word `w`, counted from the first of register `r` on, stands among the words of all.
 pub fn place(vlen: u32, r: u8, w: u32) -> usize
-    requires register { r < 32 }
-    requires within { w < words_of_register vlen }
-    ensures is { result ≡ place_of vlen r w }
-    ensures below { result < words_of_all vlen }
+    ensures { result ≡ place_of vlen r w }
 {
     r as usize * (vlen as usize / 64) + w as usize
 }

@@ -1,8 +1,8 @@
-ghost use Rattle.std.specs.Prelude.{◌≡◌, ◌≤◌, ◌<◌, IsTrue, IsFalse, IfOk, Some, None};
+ghost use Rattle.std.specs.Prelude.{◌≡◌, ◌+◌, ◌≤◌, ◌<◌, length, IsTrue, IsFalse, IfOk, Some, None};
 ghost use Rattle.vx_base.specs.Options.{is_register_length};
 ghost use Rattle.vx_vstate.specs.Control.{control_read, control_written};
-ghost use Rattle.vx_vstate.specs.Registers.{words_of_register};
-ghost use Rattle.vx_vstate.specs.State.{first_state, with_setting, with_register_word, finished};
+ghost use Rattle.vx_vstate.specs.Registers.{place_of, words_of_all};
+ghost use Rattle.vx_vstate.specs.State.{first_state, with_setting, with_register_word, with_register_words, finished};
 
 use crate::avl::Avl;
 use crate::configure::{Configured, configure};
@@ -141,14 +141,22 @@ impl VState {
         }
     }
 
-    /// Sets word `w` of register `r`.
+    /// Sets word `w` of the group that begins at register `r`.
     pub fn put_word(&mut self, r: u8, w: u32, value: u64)
-        requires register { r < 32 }
-        requires within { w < words_of_register self.old.vlen }
+        requires within { place_of self.old.vlen r w < words_of_all self.old.vlen }
         ensures { self.new ≡ with_register_word self.old r w value }
     {
         let place = place(self.vlen, r, w);
         self.words[place] = value;
+    }
+
+    /// Sets words one behind another, from word `w` of the group that begins at register `r` on.
+    pub fn put_words(&mut self, r: u8, w: u32, values: &[u64])
+        requires within { place_of self.old.vlen r w + length values.now ≤ words_of_all self.old.vlen }
+        ensures { self.new ≡ with_register_words self.old r w values.now }
+    {
+        let start = place(self.vlen, r, w);
+        self.words[start..start + values.len()].copy_from_slice(values);
     }
 
     /// Ends an instruction: sets vstart, and joins vxsat with what it saturated.

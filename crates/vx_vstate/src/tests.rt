@@ -1,7 +1,7 @@
 //! What no clause shows: that the definitions give the standard's numbers, and that each call can be made.
 
 ghost use Rattle.std.specs.Prelude.{◌≡◌, ◌<◌};
-ghost use Rattle.vx_vstate.specs.Registers.{words_of_register, word_at};
+ghost use Rattle.vx_vstate.specs.Registers.{place_of, words_of_all, word_at};
 
 use crate::{Avl, Setting, VState, WordFile};
 use std::test::Fail;
@@ -22,8 +22,7 @@ const ONES: u64 = 0xffff_ffff_ffff_ffff;
 /// A word through the trait, as the crates above read it.
 fn word_of<S: WordFile>(at: &Setting, file: &S, r: u8, w: u32) -> u64
     requires vlen { S.vlen file.now ≡ at.now.vlen }
-    requires register { r < 32 }
-    requires within { w < words_of_register at.now.vlen }
+    requires within { place_of at.now.vlen r w < words_of_all at.now.vlen }
     ensures { result ≡ word_at at.now.vlen (S.words file.now) r w }
 {
     file.word(r, w)
@@ -88,6 +87,11 @@ fn keeps_words(rt: HostRuntime) -> Result<(), Fail> {
     let view = state.setting(0);
     assert_eq!(rt; word_of(&view, &state, 31, 1), ONES);
     assert_eq!(rt; word_of(&view, &state, 0, 0), 5);
+    state.put_words(2, 1, &[6, 7]);
+    assert_eq!(rt;
+        (word_of(&view, &state, 2, 1), word_of(&view, &state, 3, 0)),
+        (6, 7)
+    );
     assert_eq!(rt; (state.words().len(), state.vlen()), (64, 128));
     state.finish(2, true);
     state.trim(9);
