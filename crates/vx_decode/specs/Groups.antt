@@ -32,7 +32,7 @@ extent g = g.fields * registers_of_group g.emul_eighths
 abbrev pub meet : Group → Group → Bool
 meet g h = nat_lt g.register (h.register + extent h) && nat_lt h.register (g.register + extent g)
 
--- EEW of an operand
+-- EEW of an operand. While vill is set the field SEW reads as 8, so that whole-register moves copy bytes: this project's own
 abbrev pub width_of : Operand → (sew : ℕ) → ℕ
 width_of Absent S = 0
 width_of Single S = S

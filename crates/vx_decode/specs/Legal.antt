@@ -168,7 +168,7 @@ is_high_half other = false
 abbrev pub is_too_wide : Instr → SettingView → Bool
 is_too_wide i at = sew at.vtype == 64 && is_high_half (class_of i.op)
 
--- ---- any of them
+-- ---- any of them, of a vector instruction
 
 abbrev pub is_illegal : Instr → SettingView → Bool
 is_illegal i at =

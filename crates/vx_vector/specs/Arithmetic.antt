@@ -1,5 +1,6 @@
 -- An instruction of vector arithmetic: the fold over its elements in rising order. RISC-V "V" 1.0, sections 5.3, 5.4, 10, 14
--- and 16. Elements that take no part stay as they are.
+-- and 16. Elements that take no part stay as they are, also where vta or vma is set, and so do a mask's bits past vl: choices
+-- that the standard leaves (section 3.4.3).
 use Rattle.std.specs.Prelude.{ℕ, zero, suc, ◌%◌, ◌^◌, Bool, false, ◌==◌, ◌&&◌, nat_lt, List, length, get_or, if◌then◌else◌, Option, Some, None, option_map}
 use Rattle.vx_bits.specs.declared.saturation.Sat.{Sat}
 use Rattle.vx_packed.specs.Joined.{some_below}
