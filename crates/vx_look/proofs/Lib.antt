@@ -2,6 +2,7 @@ pub mod Orders
 pub mod PageMaps
 pub mod Caught
 pub mod Judging
+pub mod Lasting
 pub mod Going
 pub mod Beginning
 pub mod Batched

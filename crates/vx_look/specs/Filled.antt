@@ -1,9 +1,12 @@
 -- Caches of translations that were filled by walks. This project's own.
-use Rattle.std.specs.Prelude.{◌≡◌, ℕ, ◌<◌, ◌^◌, false, List, [], ◌∷◌, length, Option}
+use Rattle.std.specs.Prelude.{◌≡◌, ℕ, ◌<◌, ◌^◌, true, false, List, [], ◌∷◌, length, Option}
+use Rattle.vx_base.specs.declared.machine.Want.{Want}
 use Rattle.vx_base.specs.declared.machine.Want.TheVariants.{Fetch}
-use Rattle.vx_image.specs.Pages.{page_of}
+use Rattle.vx_episode.specs.Organisation.{data_entries}
+use Rattle.vx_image.specs.Pages.{is_canonical, page_of}
 use Rattle.vx_look.specs.Fates.{is_miss}
 use Rattle.vx_tables.specs.Caches.{Fill, look_up}
+use Rattle.vx_tables.specs.declared.look.Look.TheVariants.{Hit}
 use Rattle.vx_tables.specs.declared.walked.Walked.{Walked}
 use Rattle.vx_tables.specs.declared.walked.Walked.TheVariants as walked
 use Rattle.vx_tlb.specs.Kept.{StandsFor}
@@ -31,3 +34,13 @@ IsFoundBelow frames walked.Denied = Unit {0}
 abbrev pub IsLetThrough : (places : List (Option Kept)) → (number : ℕ) → Type 0
 IsLetThrough places number = (address : ℕ) (fills : List Fill) → address < 2 ^ 64 → page_of address ≡ number → StandsFor places fills
     → is_miss (look_up (length places) fills number Fetch) ≡ false
+
+-- a look of the data's cache for an address's page finds it in that frame
+pub record IsHitAt (places : List (Option Kept)) (want : Want) (address frame : ℕ) : Type 0 where
+  pub below : frame < 16384
+  pub canonical : is_canonical address ≡ true
+  pub hit : (fills : List Fill) → StandsFor places fills → look_up data_entries fills (page_of address) want ≡ Hit frame
+
+-- so does one for each address of the page of that number
+abbrev pub IsLastHit : (places : List (Option Kept)) → Want → (number frame : ℕ) → Type 0
+IsLastHit places want number frame = (address : ℕ) → address < 2 ^ 64 → page_of address ≡ number → IsHitAt places want address frame

@@ -1,20 +1,19 @@
-ghost use Rattle.std.specs.Prelude.{◌≡◌, ℕ, ◌+◌, ◌*◌, ◌^◌, ◌<◌, ◌≤◌, ◌||◌, not, nat_le, [], List, map, length};
+ghost use Rattle.std.specs.Prelude.{◌≡◌, ◌+◌, ◌*◌, ◌^◌, ◌<◌, ◌≤◌, ◌||◌, not, nat_le, [], List, map, length};
 ghost use Rattle.vx_episode.specs.Batches.{fate_of, is_unknown};
 ghost use Rattle.vx_episode.specs.Footprint.{Access};
 ghost use Rattle.vx_episode.specs.History.{History, BatchTimes};
 ghost use Rattle.vx_episode.specs.Organisation.{Start};
 ghost use Rattle.vx_look.specs.Aheads.{AreLookedAhead};
 ghost use Rattle.vx_serve.specs.Fates.{told, AreKnownBy};
-ghost use Rattle.vx_look.specs.Filled.{IsFilled};
 ghost use Rattle.vx_look.specs.LookUps.{AreOf, AreReady};
 ghost use Rattle.vx_tables.specs.Walking.{HaveTables};
 
 use crate::batches::{is_failing, walk_missing};
+use crate::data_tlb::DataTlb;
 use crate::looking::is_unknown;
 use vx_base::Want;
 use vx_cells::Cells;
 use vx_serve::Fate;
-use vx_tlb::Tlb;
 use vx_vaddr::Item;
 
 /// Whether something is known of an access, or a walk behind `ended` that takes so long ends by a cycle.
@@ -27,7 +26,7 @@ fn ends_by(fate: Fate, ended: u64, time: u64, last: u64) -> bool
 
 /// The walks of a batch, as far as they end by a cycle. Answers when the last of them has ended.
 pub fn walk_ahead<C: Cells>(
-    tlb: &mut Tlb,
+    tlb: &mut DataTlb,
     cells: &mut C,
     root: u32,
     bank_time: u64,
@@ -49,7 +48,6 @@ pub fn walk_ahead<C: Cells>(
     ensures ended { result ≤ started + 32 * bank_time }
     ensures known { AreKnownBy result fates.new }
     ensures count { length fates.new ≡ length fates.old }
-    ensures filled { (entries : ℕ) → IsFilled entries tlb.old → IsFilled entries tlb.new }
     ensures walked { (start : Start) (history : History) (earlier : List BatchTimes) (accesses : List Access) → start.machine.bank_time ≡ bank_time → AreOf items.now accesses
         → AreReady start history earlier root tlb.old (C.state cells.old) → map told fates.old ≡ map (fate_of start history earlier want started []) accesses
         → AreLookedAhead start history earlier want started accesses last root tlb.new (C.state cells.old) (C.state cells.new) fates.new result }

@@ -6,20 +6,20 @@ ghost use Rattle.vx_episode.specs.History.{History, BatchTimes, Walk, walks_of_b
 ghost use Rattle.vx_episode.specs.Instructions.{walk_time};
 ghost use Rattle.vx_episode.specs.Organisation.{Start};
 ghost use Rattle.vx_serve.specs.Fates.{told, IsKnownBy, AreKnownBy};
-ghost use Rattle.vx_look.specs.Filled.{IsFilled, IsFoundBelow};
+ghost use Rattle.vx_look.specs.Filled.{IsFoundBelow};
 ghost use Rattle.vx_look.specs.LookUps.{AreGoing, AreLookedUp, AreOf, AreReady, no_access, updated};
 ghost use Rattle.vx_serve.specs.declared.fate.Fate.{Fate};
 ghost use Rattle.vx_tables.specs.Walking.{HaveTables};
 ghost use Rattle.vx_tlb.specs.Kept.{StandsFor};
 ghost use Rattle.vx_vaddr.specs.declared.item.Item.{Item};
 
+use crate::data_tlb::DataTlb;
 use crate::looking::{fate_looked, fate_walked, is_unknown};
-use crate::pages::{PAGE_BYTES, walk_and_keep};
+use crate::pages::PAGE_BYTES;
 use vx_base::Want;
 use vx_cells::Cells;
 use vx_serve::Fate;
 use vx_tables::Walked;
-use vx_tlb::Tlb;
 use vx_vaddr::Item;
 
 /// Whether an access is known to fail.
@@ -62,14 +62,14 @@ fn settle(items: &[Item], fates: &mut [Fate], page: u64, ended: u64, walked: Wal
 }
 
 /// What is known of each access of a batch by the look-ups at its start.
-pub fn look_each(tlb: &Tlb, want: Want, started: u64, items: &[Item], fates: &mut [Fate])
-    requires filled { IsFilled 32 tlb.now }
+pub fn look_each(tlb: &mut DataTlb, want: Want, started: u64, items: &[Item], fates: &mut [Fate])
     requires widths { (k : ℕ) (e : Item) → k < length items.now → 0 < (slice_index_or items.now k e).width }
     requires count { length fates.old ≡ length items.now }
+    ensures same { tlb.new ≡ tlb.old }
     ensures count { length fates.new ≡ length fates.old }
     ensures known { AreKnownBy started fates.new }
     ensures looked { (start : Start) (history : History) (earlier : List BatchTimes) (accesses : List Access) → AreOf items.now accesses
-        → StandsFor tlb.now (fills_of (walks_of_batches earlier)) → map told fates.new ≡ map (fate_of start history earlier want started []) accesses }
+        → StandsFor tlb.old (fills_of (walks_of_batches earlier)) → map told fates.new ≡ map (fate_of start history earlier want started []) accesses }
 {
     for k in 0..items.len() {
         let width = u64::from(items[k].width);
@@ -80,7 +80,7 @@ pub fn look_each(tlb: &Tlb, want: Want, started: u64, items: &[Item], fates: &mu
 /// The walk of an access's page, which takes so long, where nothing is known of the access behind the walks of the batch so far.
 /// Answers when the last walk has ended.
 pub fn walk_missing<C: Cells>(
-    tlb: &mut Tlb,
+    tlb: &mut DataTlb,
     cells: &mut C,
     root: u32,
     want: Want,
@@ -96,7 +96,6 @@ pub fn walk_missing<C: Cells>(
     requires cycles { ended + time < 2 ^ 64 }
     ensures tables { HaveTables (C.state cells.new) root }
     ensures count { length fates.new ≡ length fates.old }
-    ensures filled { (entries : ℕ) → IsFilled entries tlb.old → IsFilled entries tlb.new }
     ensures frames { (C.state cells.new).frames ≡ (C.state cells.old).frames }
     ensures cycle { (C.state cells.new).cycle ≡ (C.state cells.old).cycle }
     ensures ended { ended ≤ result }
@@ -110,7 +109,7 @@ pub fn walk_missing<C: Cells>(
         return ended;
     }
     let address = items[i].address;
-    let walked = walk_and_keep(tlb, cells, root, address, want);
+    let walked = tlb.walk(cells, root, address, want);
     let after = ended + time;
     settle(items, fates, address / PAGE_BYTES, after, walked);
     after
@@ -119,7 +118,7 @@ pub fn walk_missing<C: Cells>(
 /// The walks of a batch, of whose accesses this is known by the look-ups at its start: each page that missed is walked in the order
 /// of its first accesses, none behind an access that is known to fail. Answers when the last walk has ended.
 pub fn walk_each<C: Cells>(
-    tlb: &mut Tlb,
+    tlb: &mut DataTlb,
     cells: &mut C,
     root: u32,
     bank_time: u64,
@@ -140,7 +139,6 @@ pub fn walk_each<C: Cells>(
     ensures ended { result ≤ started + 32 * bank_time }
     ensures known { AreKnownBy result fates.new }
     ensures count { length fates.new ≡ length fates.old }
-    ensures filled { (entries : ℕ) → IsFilled entries tlb.old → IsFilled entries tlb.new }
     ensures walked { (start : Start) (history : History) (earlier : List BatchTimes) (accesses : List Access) → start.machine.bank_time ≡ bank_time → AreOf items.now accesses
         → AreReady start history earlier root tlb.old (C.state cells.old) → map told fates.old ≡ map (fate_of start history earlier want started []) accesses
         → AreLookedUp start history earlier want started accesses root tlb.new (C.state cells.old) (C.state cells.new) fates.new result }

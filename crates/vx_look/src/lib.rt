@@ -7,6 +7,7 @@
 
 mod ahead;
 mod batches;
+mod data_tlb;
 mod fate;
 mod fetching;
 mod laws;

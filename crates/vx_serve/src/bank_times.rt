@@ -103,7 +103,7 @@ impl BankTimes {
     }
 
     /// Serves a batch of one access, where it is queued.
-    #[inline]
+    #[inline(always)]
     pub fn serve_one(&mut self, fate: Fate) -> Served
         requires known { IsKnownBy (2 ^ 62) fate }
         requires stamps { AreBy (2 ^ 62) self.old.stamps }

@@ -12,8 +12,9 @@ use Rattle.vx_vaddr.specs.declared.item.Item.{Item}
 
 abbrev pub invariant-loop-k : goal.invariant-loop-k
 invariant-loop-k l = record {
+  same : l.tlb ≡ l.fn.tlb;
   count : length l.fates ≡ length l.fn.fates;
   known : (j : ℕ) (d : Fate) → j < l.k → IsKnownBy l.started (get_or l.fates j d);
   done : (j : ℕ) (d : Fate) (e : Item) (a : Access) (start : Start) (history : History) (earlier : List BatchTimes) → j < l.k → a.address ≡ (get_or l.items j e).address → a.width ≡ (get_or l.items j e).width
-      → StandsFor l.tlb (fills_of (walks_of_batches earlier)) → told (get_or l.fates j d) ≡ fate_of start history earlier l.want l.started [] a;
+      → StandsFor l.fn.tlb (fills_of (walks_of_batches earlier)) → told (get_or l.fates j d) ≡ fate_of start history earlier l.want l.started [] a;
 }

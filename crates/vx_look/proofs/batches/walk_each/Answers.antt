@@ -19,7 +19,6 @@ pub loop-i-preserved : goal.loop-i-preserved
 loop-i-preserved g c = record {
   tables = c.walk_missing-ended.ensures.tables;
   count = c.walk_missing-ended.ensures.count ∙ c.loop-i.invariant.count;
-  filled = λ entries filled. c.walk_missing-ended.ensures.filled entries (c.loop-i.invariant.filled entries filled);
   frames = c.walk_missing-ended.ensures.frames ∙ c.loop-i.invariant.frames;
   cycle = c.walk_missing-ended.ensures.cycle ∙ c.loop-i.invariant.cycle;
   begun = omega (arith, c.walk_missing-ended.ensures.ended, c.loop-i.invariant.begun);

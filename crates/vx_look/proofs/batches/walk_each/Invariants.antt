@@ -1,5 +1,5 @@
 -- How far the walks are made.
-use Rattle.std.proofs.Common.{◌≡◌, ℕ, ◌+◌, ◌*◌, ◌≤◌, [], List, map, length}
+use Rattle.std.proofs.Common.{◌≡◌, ◌+◌, ◌*◌, ◌≤◌, [], List, map, length}
 use Rattle.vx_episode.specs.Batches.{fate_of}
 use Rattle.vx_episode.specs.Footprint.{Access}
 use Rattle.vx_episode.specs.History.{History, BatchTimes}
@@ -7,7 +7,6 @@ use Rattle.vx_episode.specs.Organisation.{Start}
 use Rattle.vx_look.proofs.Reached.{IsReached}
 use Rattle.vx_look.proofs.batches.walk_each.Given as goal
 use Rattle.vx_serve.specs.Fates.{told, AreKnownBy}
-use Rattle.vx_look.specs.Filled.{IsFilled}
 use Rattle.vx_look.specs.LookUps.{AreOf, AreReady}
 use Rattle.vx_tables.specs.Walking.{HaveTables}
 
@@ -15,7 +14,6 @@ abbrev pub invariant-loop-i : goal.invariant-loop-i
 invariant-loop-i g l = record {
   tables : HaveTables (g.C.Cells.state l.cells) l.root;
   count : length l.fates ≡ length l.fn.fates;
-  filled : (entries : ℕ) → IsFilled entries l.fn.tlb → IsFilled entries l.tlb;
   frames : (g.C.Cells.state l.cells).frames ≡ (g.C.Cells.state l.fn.cells).frames;
   cycle : (g.C.Cells.state l.cells).cycle ≡ (g.C.Cells.state l.fn.cells).cycle;
   begun : l.started ≤ l.ended;

@@ -12,10 +12,10 @@ returns-then-not-is_unknown-clause-going g c start history earlier started acces
 pub returns-clause-going : goal.returns-clause-going
 returns-clause-going g c start history earlier started accesses walks before time of going =
     going-more c.args.items.now accesses of start history earlier c.args.want started c.args.root walks c.args.tlb.now before (g.C.Cells.state c.args.cells.now) c.args.fates.now c.args.ended going c.args.i c.requires.index
-    _ _ c.walk_and_keep-walked.new.tlb (g.C.Cells.state c.walk_and_keep-walked.new.cells) c.walk_and_keep-walked.result c.settle.new.fates (c.args.ended + c.args.time) (sym c.if-not-is_unknown.ensures)
+    _ _ c.walk-walked.new.self (g.C.Cells.state c.walk-walked.new.cells) c.walk-walked.result c.settle.new.fates (c.args.ended + c.args.time) (sym c.if-not-is_unknown.ensures)
     (address-at c.args.items.now accesses of c.args.i no_access _ c.requires.index)
-    (c.walk_and_keep-walked.ensures.walks (after_walks start.residency (walks ++ fetch_walks history ++ walks_of_batches earlier)) going.walked.held)
-    c.walk_and_keep-walked.ensures.kept (ap (λ (n : ℕ). c.args.ended + n) time) c.settle.ensures.count c.settle.ensures.settled
+    (c.walk-walked.ensures.walks (after_walks start.residency (walks ++ fetch_walks history ++ walks_of_batches earlier)) going.walked.held)
+    c.walk-walked.ensures.kept (ap (λ (n : ℕ). c.args.ended + n) time) c.settle.ensures.count c.settle.ensures.settled
 
 pub returns-clause-known : goal.returns-clause-known
 returns-clause-known g c known =

@@ -1,10 +1,9 @@
-use Rattle.std.proofs.Common.{ℕ, ◌+◌, ◌*◌, List, ◌++◌, sym, ap, subst}
+use Rattle.std.proofs.Common.{List, sym, subst}
 use Rattle.std.specs.Prelude.{Option}
 use Rattle.vx_cells.specs.Cells.{CellsState}
-use Rattle.vx_episode.specs.History.{fetch_walks, walks_of_batches, fills_of, after_walks}
-use Rattle.vx_look.proofs.Going.{one-known, one-walked}
+use Rattle.vx_episode.specs.History.{walks_of_batches, fills_of}
+use Rattle.vx_look.proofs.Going.{one-known}
 use Rattle.vx_look.proofs.looking.DataLookUps.look_one.Goals as goal
-use Rattle.vx_look.specs.LookUps.{AreReady}
 use Rattle.vx_tlb.specs.Kept.{StandsFor}
 use Rattle.vx_tlb.specs.declared.tlb.Kept.{Kept}
 
@@ -13,17 +12,5 @@ returns-then-not-is_unknown-clause-looked g c start history earlier a bank_time 
     let cells : CellsState = g.C.Cells.state c.args.cells.now in
     let kept : StandsFor c.self.inside.tlb (fills_of (walks_of_batches earlier)) =
     subst (λ (ps : List (Option Kept)). StandsFor ps (fills_of (walks_of_batches earlier))) (sym c.self.view_is) ready.kept in
-    one-known start history earlier c.args.want c.args.started c.args.root a c.args.self.now cells c.fate_looked-fate.result
-    (c.fate_looked-fate.ensures.looked start history earlier a at width kept) (sym c.if-not-is_unknown.ensures) ready
-
-pub returns-clause-looked : goal.returns-clause-looked
-returns-clause-looked g c start history earlier a bank_time at width ready =
-    let before : CellsState = g.C.Cells.state c.args.cells.now in
-    let after : CellsState = g.C.Cells.state c.walk_and_keep-answer.new.cells in
-    let kept : StandsFor c.self.inside.tlb (fills_of (walks_of_batches earlier)) =
-    subst (λ (ps : List (Option Kept)). StandsFor ps (fills_of (walks_of_batches earlier))) (sym c.self.view_is) ready.kept in
-    let begun : AreReady start history earlier c.args.root c.self.inside.tlb before = record { kept = kept; held = ready.held } in
-    one-walked start history earlier c.args.want c.args.started c.args.root a c.args.address c.self.inside.tlb c.walk_and_keep-answer.new.tlb before after c.fate_looked-fate.result c.fate_walked.result c.walk_and_keep-answer.result (c.args.started + 4 * c.args.bank_time) at
-    (c.fate_looked-fate.ensures.looked start history earlier a at width kept) (sym c.if-not-is_unknown.ensures) begun
-    (c.walk_and_keep-answer.ensures.walks (after_walks start.residency (fetch_walks history ++ walks_of_batches earlier)) ready.held)
-    c.walk_and_keep-answer.ensures.kept (c.fate_walked.ensures.walked a at) (ap (λ (n : ℕ). c.args.started + 4 * n) (sym bank_time))
+    one-known start history earlier c.args.want c.args.started c.args.root a c.args.self.now cells c.fate_at_last-fate.result
+    (c.fate_at_last-fate.ensures.looked (sym c.if-not-is_unknown.ensures) start history earlier a at width kept) (sym c.if-not-is_unknown.ensures) ready

@@ -1,6 +1,6 @@
 use Rattle.std.proofs.Common.{sym, subst, length}
 use Rattle.vx_look.proofs.Caught.{look-below}
-use Rattle.vx_look.proofs.looking.look.Goals as goal
+use Rattle.vx_look.proofs.data_tlb.look.Goals as goal
 use Rattle.vx_look.specs.Fates.{IsHitBelow}
 use Rattle.vx_tables.specs.declared.look.Look.{Look}
 
