@@ -1,16 +1,22 @@
 -- What a step does, by what stands at the pc.
-use Rattle.std.proofs.Common.{◌≡◌, ℕ, Bool, Option, Some, true, false, if◌then◌else◌, refl, sym, ap, ◌∙◌}
+use Rattle.std.proofs.Common.{◌≡◌, ℕ, Bool, Option, Some, true, false, is_some, if◌then◌else◌, refl, sym, ap, ◌∙◌}
+use Rattle.std.proofs.lemmas.Bool.{false≢true}
+use Rattle.vx_base.specs.declared.machine.Fault.{Fault}
 use Rattle.vx_decode.specs.declared.instr.Instr.{Instr}
 use Rattle.vx_rows.specs.Table.{class_of}
 use Rattle.vx_rows.specs.declared.row.Class.{Class}
+use Rattle.vx_rows.specs.declared.row.Class.TheVariants as class
 use Rattle.vx_flat.specs.State.{Flat}
 use Rattle.vx_base.specs.declared.machine.Want.TheVariants.{Fetch}
 use Rattle.vx_decode.specs.Decoded.{decoded}
 use Rattle.vx_image.specs.Pages.{permits}
-use Rattle.vx_flat.specs.Outcome.{faulted}
-use Rattle.vx_flat.specs.Step.{upcoming, meaning, is_legal, is_legal_as, performed, word_at_pc}
+use Rattle.vx_flat.specs.Outcome.{Outcome, faulted}
+use Rattle.vx_flat.specs.Step.{affect, upcoming, meaning, is_legal, is_legal_as, performed, word_at_pc}
 use Rattle.vx_flat.specs.declared.upcoming.Upcoming.TheVariants.{Denied, Illegal, Instruction}
-use Rattle.vx_hart.specs.Outcomes.{outcome_as, outcome_next}
+use Rattle.vx_hart.specs.Effects.{is_effect_class}
+use Rattle.vx_hart.specs.Outcomes.{outcome_as, outcome_next, outcome_of}
+use Rattle.vx_hart.specs.declared.progress.Progress.{Progress}
+use Rattle.vx_hart.specs.declared.progress.Progress.TheVariants as progress
 
 -- what stands at the pc where it can't be fetched, and where it is this word
 pub upcoming-denied : (s : Flat) → permits s.memory s.pc Fetch ≡ false → upcoming s ≡ Denied
@@ -46,3 +52,21 @@ outcome-illegal s word = refl
 pub outcome-instruction : (s : Flat) (i : Instr) (c : Class) → c ≡ class_of i.op → outcome_as c s i ≡ outcome_next s (Instruction i)
 unfolding performed
 outcome-instruction s i c is = ap (λ (k : Class). outcome_as k s i) is
+
+-- an instruction of a class that is always legal
+pub outcome-legal : (s : Flat) (word : ℕ) (i : Instr) (c : Class) → c ≡ class_of i.op → (is_legal_as c s i) ≡ true → outcome_as c s i ≡ outcome_next s (meaning s word (Some i))
+outcome-legal s word i c is legal = outcome-instruction s i c is ∙ ap (outcome_next s) (sym (meaning-legal s word i c is legal))
+
+-- one that only has an effect
+pub outcome-affect : (s : Flat) (word : ℕ) (i : Instr) (c : Class) → c ≡ class_of i.op → is_effect_class c ≡ true → Some (affect s i) ≡ outcome_next s (meaning s word (Some i))
+outcome-affect s word i class.Arithmetic is effect = outcome-legal s word i class.Arithmetic is refl
+outcome-affect s word i class.Multiply is effect = outcome-legal s word i class.Multiply is refl
+outcome-affect s word i class.Divide is effect = outcome-legal s word i class.Divide is refl
+outcome-affect s word i class.Jump is effect = outcome-legal s word i class.Jump is refl
+outcome-affect s word i class.Branch is effect = outcome-legal s word i class.Branch is refl
+outcome-affect s word i class.Fence is effect = outcome-legal s word i class.Fence is refl
+outcome-affect s word i other is effect = absurd (false≢true effect)
+
+-- what leads to an outcome asks for nothing
+pub asks-nothing : (p : Progress) (fault : Fault) (s : Flat) (o : Outcome) → outcome_of p fault s ≡ Some o → p ≡ progress.Asks → ⊥
+asks-nothing p fault s o leads is = false≢true (ap is_some (ap (λ (q : Progress). outcome_of q fault s) (sym is) ∙ leads))

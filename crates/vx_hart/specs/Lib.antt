@@ -1,5 +1,6 @@
 pub mod Asking
 pub mod Directions
+pub mod Effects
 pub mod Found
 pub mod Operands
 pub mod Outcomes

@@ -63,18 +63,18 @@ pub fn calculate(
 pub fn calculate_legal(
     calculator: &mut Calculator,
     arch: &mut Arch,
-    i: Instr,
+    i: &Instr,
     family: Family,
 ) -> Option<Progress>
-    requires valid { IsValid i }
-    requires registers { NamesRegisters i }
-    requires class { class_of i.op ≡ class.VectorArithmetic family }
-    ensures legal { (memory : FlatMemory) (output : List ℕ) → is_some result ≡ (not (is_illegal i (setting_at (flat_of arch.old memory output) i))) }
+    requires valid { IsValid i.now }
+    requires registers { NamesRegisters i.now }
+    requires class { class_of i.now.op ≡ class.VectorArithmetic family }
+    ensures legal { (memory : FlatMemory) (output : List ℕ) → is_some result ≡ (not (is_illegal i.now (setting_at (flat_of arch.old memory output) i.now))) }
     ensures illegal { result ≡ None → (memory : FlatMemory) (output : List ℕ) → flat_of arch.new memory output ≡ flat_of arch.old memory output }
-    ensures performed { IfSome result (λ p. (fault : Fault) (memory : FlatMemory) (output : List ℕ) → outcome_of p fault (flat_of arch.new memory output) ≡ Some (calculate_by (reading_at (flat_of arch.old memory output) i) (flat_of arch.old memory output) i)) }
+    ensures performed { IfSome result (λ p. (fault : Fault) (memory : FlatMemory) (output : List ℕ) → outcome_of p fault (flat_of arch.new memory output) ≡ Some (calculate_by (reading_at (flat_of arch.old memory output) i.now) (flat_of arch.old memory output) i.now)) }
 {
-    let Some(at) = calculation(arch, &i) else {
+    let Some(at) = calculation(arch, i) else {
         return None;
     };
-    Some(calculate(calculator, arch, &i, family, &at))
+    Some(calculate(calculator, arch, i, family, &at))
 }

@@ -16,14 +16,14 @@ use vx_decode::Instr;
 
 /// Reads and changes a control register where that is legal; where it isn't, nothing changes.
 #[inline(never)]
-pub fn control(arch: &mut Arch, i: Instr) -> Option<Progress>
-    requires registers { NamesRegisters i }
-    ensures legal { (memory : FlatMemory) (output : List ℕ) → is_some result ≡ (is_some (exchange_at (flat_of arch.old memory output) i)) }
+pub fn control(arch: &mut Arch, i: &Instr) -> Option<Progress>
+    requires registers { NamesRegisters i.now }
+    ensures legal { (memory : FlatMemory) (output : List ℕ) → is_some result ≡ (is_some (exchange_at (flat_of arch.old memory output) i.now)) }
     ensures illegal { result ≡ None → (memory : FlatMemory) (output : List ℕ) → flat_of arch.new memory output ≡ flat_of arch.old memory output }
-    ensures performed { IfSome result (λ p. (fault : Fault) (memory : FlatMemory) (output : List ℕ) → outcome_of p fault (flat_of arch.new memory output) ≡ Some (control_by (exchange_at (flat_of arch.old memory output) i) (flat_of arch.old memory output) i)) }
+    ensures performed { IfSome result (λ p. (fault : Fault) (memory : FlatMemory) (output : List ℕ) → outcome_of p fault (flat_of arch.new memory output) ≡ Some (control_by (exchange_at (flat_of arch.old memory output) i.now) (flat_of arch.old memory output) i.now)) }
 {
-    let operand = operand_of(&i, &arch.regs);
-    let number = control_number(&i);
+    let operand = operand_of(i, &arch.regs);
+    let number = control_number(i);
     let Some(read) = exchange(&mut arch.v, number, change_in(i.op), i.rs1, operand) else {
         return None;
     };
@@ -33,15 +33,15 @@ pub fn control(arch: &mut Arch, i: Instr) -> Option<Progress>
 
 /// Configures vectors.
 #[inline(never)]
-pub fn configure(arch: &mut Arch, i: Instr) -> Option<Progress>
-    requires registers { NamesRegisters i }
+pub fn configure(arch: &mut Arch, i: &Instr) -> Option<Progress>
+    requires registers { NamesRegisters i.now }
     ensures legal { is_some result ≡ true }
     ensures illegal { result ≡ None → (memory : FlatMemory) (output : List ℕ) → flat_of arch.new memory output ≡ flat_of arch.old memory output }
-    ensures performed { IfSome result (λ p. (fault : Fault) (memory : FlatMemory) (output : List ℕ) → outcome_of p fault (flat_of arch.new memory output) ≡ Some (configure (flat_of arch.old memory output) i)) }
+    ensures performed { IfSome result (λ p. (fault : Fault) (memory : FlatMemory) (output : List ℕ) → outcome_of p fault (flat_of arch.new memory output) ≡ Some (configure (flat_of arch.old memory output) i.now)) }
 {
-    let operand = operand_of(&i, &arch.regs);
+    let operand = operand_of(i, &arch.regs);
     let avl = length_asked(source_in(i.op), i.rd, i.rs1, operand);
-    let vl = arch.v.set_vl(avl, vtype_of(&i, &arch.regs));
+    let vl = arch.v.set_vl(avl, vtype_of(i, &arch.regs));
     arch.regs.write(i.rd, vl);
     Some(complete(arch))
 }

@@ -1,4 +1,4 @@
-ghost use Rattle.std.specs.Prelude.{◌≡◌, ◌⊎◌, ℕ, Bool, List, ◌<◌, ◌≤◌, ◌&&◌, not, is_some, slice_index, true, false, Some, None, IfOk, IfSome};
+ghost use Rattle.std.specs.Prelude.{◌≡◌, ◌≢◌, ◌⊎◌, ℕ, Bool, List, ◌<◌, ◌≤◌, ◌&&◌, not, is_some, slice_index, true, false, Some, None, IfOk, IfSome};
 ghost use Rattle.vx_decode.specs.Encoded.{IsValid};
 ghost use Rattle.vx_decode.specs.Legal.{is_illegal};
 ghost use Rattle.vx_flat.specs.Prefix.{prefix_at, transfer_next};
@@ -7,10 +7,12 @@ ghost use Rattle.vx_flat.specs.Transfers.{below_done, first_failure, transfer, t
 ghost use Rattle.vx_flat.specs.Transfers.{Direction as FlatDirection};
 ghost use Rattle.vx_flat.specs.Vectors.{reading_at, setting_at};
 ghost use Rattle.vx_hart.specs.Asking.{asks, class_next, is_service, is_service_class};
+ghost use Rattle.vx_hart.specs.Effects.{is_effect_class};
 ghost use Rattle.vx_hart.specs.Directions.{direction_of};
 ghost use Rattle.vx_hart.specs.Found.{IsValidFound, next_of};
 ghost use Rattle.vx_hart.specs.Outcomes.{flat_of, outcome_as, outcome_next, outcome_of};
 ghost use Rattle.vx_hart.specs.Transfers.{Moves, transfer_with};
+ghost use Rattle.vx_hart.specs.declared.progress.Progress.TheVariants as progress;
 ghost use Rattle.vx_image.specs.Pages.{Memory as FlatMemory};
 ghost use Rattle.vx_rows.specs.Table.{class_of};
 ghost use Rattle.vx_rows.specs.declared.row.Class.TheVariants as class;
@@ -127,7 +129,7 @@ impl Executor {
                 class: None,
                 progress: fault(arch, &mut self.fault, 2, u64::from(word)),
             },
-            Found::Known(word, known) => self.advance_by(arch, memory, physical, word, known),
+            Found::Known(word, known) => self.advance_by(arch, memory, physical, word, &known),
         }
     }
 
@@ -138,19 +140,74 @@ impl Executor {
         memory: &mut M,
         physical: &mut P,
         word: u32,
-        known: Known,
+        known: &Known,
     ) -> Progress
-        requires valid { IsValid known.instr }
+        requires valid { IsValid known.now.instr }
         requires fits { M.fits memory.old physical.old }
         ensures fits { M.fits memory.new physical.new }
         ensures rest { M.rest memory.new physical.new ≡ M.rest memory.old physical.old }
         ensures waits { (output : List ℕ) → let s = flat_of arch.old (M.state memory.old physical.old) output in
-            is_service (meaning s word (Some known.instr)) ≡ true → flat_of arch.new (M.state memory.new physical.new) output ≡ s }
+            is_service (meaning s word (Some known.now.instr)) ≡ true → flat_of arch.new (M.state memory.new physical.new) output ≡ s }
         ensures performed { (output : List ℕ) → let s = flat_of arch.old (M.state memory.old physical.old) output in
-            outcome_of result self.new (flat_of arch.new (M.state memory.new physical.new) output) ≡ outcome_next s (meaning s word (Some known.instr)) }
+            outcome_of result self.new (flat_of arch.new (M.state memory.new physical.new) output) ≡ outcome_next s (meaning s word (Some known.now.instr)) }
     {
         self.advance_by(arch, memory, physical, word, known)
             .progress
+    }
+
+    /// Does an instruction that only has an effect on the registers and the pc.
+    #[tactic(auto, using(crate::proofs::Performable::names_registers))]
+    #[inline(always)]
+    pub fn affect(&mut self, arch: &mut Arch, i: &Instr) -> Progress
+        requires valid { IsValid i.now }
+        requires class { is_effect_class (class_of i.now.op) ≡ true }
+        ensures never_asks { result ≢ progress.Asks }
+        ensures performed { (word : ℕ) (memory : FlatMemory) (output : List ℕ) → let s = flat_of arch.old memory output in
+            outcome_of result self.new (flat_of arch.new memory output) ≡ outcome_next s (meaning s word (Some i.now)) }
+    {
+        affect(arch, &mut self.fault, i)
+    }
+
+    /// Does a scalar load.
+    #[tactic(auto, using(crate::proofs::Performable::names_registers))]
+    #[inline(always)]
+    pub fn load<P, M: Memory<P>>(
+        &mut self,
+        arch: &mut Arch,
+        memory: &mut M,
+        physical: &mut P,
+        i: &Instr,
+    ) -> Progress
+        requires valid { IsValid i.now }
+        requires class { class_of i.now.op ≡ class.Load }
+        requires fits { M.fits memory.old physical.old }
+        ensures fits { M.fits memory.new physical.new }
+        ensures rest { M.rest memory.new physical.new ≡ M.rest memory.old physical.old }
+        ensures performed { (word : ℕ) (output : List ℕ) → let s = flat_of arch.old (M.state memory.old physical.old) output in
+            outcome_of result self.new (flat_of arch.new (M.state memory.new physical.new) output) ≡ outcome_next s (meaning s word (Some i.now)) }
+    {
+        load(arch, &mut self.fault, memory, physical, i)
+    }
+
+    /// Does a scalar store.
+    #[tactic(auto, using(crate::proofs::Performable::names_registers))]
+    #[inline(always)]
+    pub fn store<P, M: Memory<P>>(
+        &mut self,
+        arch: &mut Arch,
+        memory: &mut M,
+        physical: &mut P,
+        i: &Instr,
+    ) -> Progress
+        requires valid { IsValid i.now }
+        requires class { class_of i.now.op ≡ class.Store }
+        requires fits { M.fits memory.old physical.old }
+        ensures fits { M.fits memory.new physical.new }
+        ensures rest { M.rest memory.new physical.new ≡ M.rest memory.old physical.old }
+        ensures performed { (word : ℕ) (output : List ℕ) → let s = flat_of arch.old (M.state memory.old physical.old) output in
+            outcome_of result self.new (flat_of arch.new (M.state memory.new physical.new) output) ≡ outcome_next s (meaning s word (Some i.now)) }
+    {
+        store(arch, &mut self.fault, memory, physical, i)
     }
 
     /// The setting of vector arithmetic, where it is legal.
@@ -276,18 +333,18 @@ impl Executor {
         memory: &mut M,
         physical: &mut P,
         word: u32,
-        known: Known,
+        known: &Known,
     ) -> Advance
-        requires valid { IsValid known.instr }
+        requires valid { IsValid known.now.instr }
         requires fits { M.fits memory.old physical.old }
         ensures fits { M.fits memory.new physical.new }
         ensures rest { M.rest memory.new physical.new ≡ M.rest memory.old physical.old }
-        ensures class { (output : List ℕ) → result.class ≡ class_next (meaning (flat_of arch.old (M.state memory.old physical.old) output) word (Some known.instr)) }
+        ensures class { (output : List ℕ) → result.class ≡ class_next (meaning (flat_of arch.old (M.state memory.old physical.old) output) word (Some known.now.instr)) }
         ensures waits { asks result.class ≡ true → (output : List ℕ) → flat_of arch.new (M.state memory.new physical.new) output ≡ flat_of arch.old (M.state memory.old physical.old) output }
         ensures performed { (output : List ℕ) → let s = flat_of arch.old (M.state memory.old physical.old) output in
-            outcome_of result.progress self.new (flat_of arch.new (M.state memory.new physical.new) output) ≡ outcome_next s (meaning s word (Some known.instr)) }
+            outcome_of result.progress self.new (flat_of arch.new (M.state memory.new physical.new) output) ≡ outcome_next s (meaning s word (Some known.now.instr)) }
     {
-        let Some(progress) = self.perform(arch, memory, physical, known.class, known.instr) else {
+        let Some(progress) = self.perform(arch, memory, physical, known.class, &known.instr) else {
             return Advance {
                 class: None,
                 progress: fault(arch, &mut self.fault, 2, u64::from(word)),
@@ -309,17 +366,17 @@ impl Executor {
         memory: &mut M,
         physical: &mut P,
         class: Class,
-        i: Instr,
+        i: &Instr,
     ) -> Option<Progress>
-        requires valid { IsValid i }
-        requires class { class ≡ class_of i.op }
+        requires valid { IsValid i.now }
+        requires class { class ≡ class_of i.now.op }
         requires fits { M.fits memory.old physical.old }
         ensures fits { M.fits memory.new physical.new }
         ensures rest { M.rest memory.new physical.new ≡ M.rest memory.old physical.old }
-        ensures legal { (output : List ℕ) → is_some result ≡ (is_legal_as class (flat_of arch.old (M.state memory.old physical.old) output) i) }
+        ensures legal { (output : List ℕ) → is_some result ≡ (is_legal_as class (flat_of arch.old (M.state memory.old physical.old) output) i.now) }
         ensures illegal { result ≡ None → (output : List ℕ) → flat_of arch.new (M.state memory.new physical.new) output ≡ flat_of arch.old (M.state memory.old physical.old) output }
         ensures waits { is_service_class class ≡ true → (output : List ℕ) → flat_of arch.new (M.state memory.new physical.new) output ≡ flat_of arch.old (M.state memory.old physical.old) output }
-        ensures performed { IfSome result (λ p. (output : List ℕ) → outcome_of p self.new (flat_of arch.new (M.state memory.new physical.new) output) ≡ outcome_as class (flat_of arch.old (M.state memory.old physical.old) output) i) }
+        ensures performed { IfSome result (λ p. (output : List ℕ) → outcome_of p self.new (flat_of arch.new (M.state memory.new physical.new) output) ≡ outcome_as class (flat_of arch.old (M.state memory.old physical.old) output) i.now) }
     {
         match class {
             Class::Arithmetic | Class::Multiply | Class::Divide => Some(affect(

@@ -232,19 +232,19 @@ fn transfer_legal<P, M: Memory<P>>(
     direction: Direction,
     addressing: Addressing,
     encoded: Eew,
-    i: Instr,
+    i: &Instr,
 ) -> Option<Progress>
-    requires valid { IsValid i }
-    requires registers { NamesRegisters i }
-    requires row { (class_of i.op ≡ VectorLoad addressing encoded) ⊎ (class_of i.op ≡ VectorStore addressing encoded) }
+    requires valid { IsValid i.now }
+    requires registers { NamesRegisters i.now }
+    requires row { (class_of i.now.op ≡ VectorLoad addressing encoded) ⊎ (class_of i.now.op ≡ VectorStore addressing encoded) }
     requires fits { M.fits memory.old physical.old }
     ensures fits { M.fits memory.new physical.new }
     ensures rest { M.rest memory.new physical.new ≡ M.rest memory.old physical.old }
-    ensures legal { (output : List ℕ) → is_some result ≡ (not (is_illegal i (setting_at (flat_of arch.old (M.state memory.old physical.old) output) i))) }
+    ensures legal { (output : List ℕ) → is_some result ≡ (not (is_illegal i.now (setting_at (flat_of arch.old (M.state memory.old physical.old) output) i.now))) }
     ensures illegal { result ≡ None → (output : List ℕ) → flat_of arch.new (M.state memory.new physical.new) output ≡ flat_of arch.old (M.state memory.old physical.old) output }
-    ensures performed { IfSome result (λ p. (output : List ℕ) → outcome_of p last.new (flat_of arch.new (M.state memory.new physical.new) output) ≡ Some (transferred (transfer (direction_of direction) addressing encoded (flat_of arch.old (M.state memory.old physical.old) output) i) (flat_of arch.old (M.state memory.old physical.old) output))) }
+    ensures performed { IfSome result (λ p. (output : List ℕ) → outcome_of p last.new (flat_of arch.new (M.state memory.new physical.new) output) ≡ Some (transferred (transfer (direction_of direction) addressing encoded (flat_of arch.old (M.state memory.old physical.old) output) i.now) (flat_of arch.old (M.state memory.old physical.old) output))) }
 {
-    let Some((pattern, at)) = movement(arch, addressing, encoded, &i) else {
+    let Some((pattern, at)) = movement(arch, addressing, encoded, i) else {
         return None;
     };
     Some(transfer(
@@ -262,17 +262,17 @@ pub fn load_vectors<P, M: Memory<P>>(
     physical: &mut P,
     addressing: Addressing,
     encoded: Eew,
-    i: Instr,
+    i: &Instr,
 ) -> Option<Progress>
-    requires valid { IsValid i }
-    requires registers { NamesRegisters i }
-    requires row { class_of i.op ≡ VectorLoad addressing encoded }
+    requires valid { IsValid i.now }
+    requires registers { NamesRegisters i.now }
+    requires row { class_of i.now.op ≡ VectorLoad addressing encoded }
     requires fits { M.fits memory.old physical.old }
     ensures fits { M.fits memory.new physical.new }
     ensures rest { M.rest memory.new physical.new ≡ M.rest memory.old physical.old }
-    ensures legal { (output : List ℕ) → is_some result ≡ (not (is_illegal i (setting_at (flat_of arch.old (M.state memory.old physical.old) output) i))) }
+    ensures legal { (output : List ℕ) → is_some result ≡ (not (is_illegal i.now (setting_at (flat_of arch.old (M.state memory.old physical.old) output) i.now))) }
     ensures illegal { result ≡ None → (output : List ℕ) → flat_of arch.new (M.state memory.new physical.new) output ≡ flat_of arch.old (M.state memory.old physical.old) output }
-    ensures performed { IfSome result (λ p. (output : List ℕ) → outcome_of p last.new (flat_of arch.new (M.state memory.new physical.new) output) ≡ Some (transferred (transfer Loading addressing encoded (flat_of arch.old (M.state memory.old physical.old) output) i) (flat_of arch.old (M.state memory.old physical.old) output))) }
+    ensures performed { IfSome result (λ p. (output : List ℕ) → outcome_of p last.new (flat_of arch.new (M.state memory.new physical.new) output) ≡ Some (transferred (transfer Loading addressing encoded (flat_of arch.old (M.state memory.old physical.old) output) i.now) (flat_of arch.old (M.state memory.old physical.old) output))) }
 {
     transfer_legal(
         kept,
@@ -297,17 +297,17 @@ pub fn store_vectors<P, M: Memory<P>>(
     physical: &mut P,
     addressing: Addressing,
     encoded: Eew,
-    i: Instr,
+    i: &Instr,
 ) -> Option<Progress>
-    requires valid { IsValid i }
-    requires registers { NamesRegisters i }
-    requires row { class_of i.op ≡ VectorStore addressing encoded }
+    requires valid { IsValid i.now }
+    requires registers { NamesRegisters i.now }
+    requires row { class_of i.now.op ≡ VectorStore addressing encoded }
     requires fits { M.fits memory.old physical.old }
     ensures fits { M.fits memory.new physical.new }
     ensures rest { M.rest memory.new physical.new ≡ M.rest memory.old physical.old }
-    ensures legal { (output : List ℕ) → is_some result ≡ (not (is_illegal i (setting_at (flat_of arch.old (M.state memory.old physical.old) output) i))) }
+    ensures legal { (output : List ℕ) → is_some result ≡ (not (is_illegal i.now (setting_at (flat_of arch.old (M.state memory.old physical.old) output) i.now))) }
     ensures illegal { result ≡ None → (output : List ℕ) → flat_of arch.new (M.state memory.new physical.new) output ≡ flat_of arch.old (M.state memory.old physical.old) output }
-    ensures performed { IfSome result (λ p. (output : List ℕ) → outcome_of p last.new (flat_of arch.new (M.state memory.new physical.new) output) ≡ Some (transferred (transfer Storing addressing encoded (flat_of arch.old (M.state memory.old physical.old) output) i) (flat_of arch.old (M.state memory.old physical.old) output))) }
+    ensures performed { IfSome result (λ p. (output : List ℕ) → outcome_of p last.new (flat_of arch.new (M.state memory.new physical.new) output) ≡ Some (transferred (transfer Storing addressing encoded (flat_of arch.old (M.state memory.old physical.old) output) i.now) (flat_of arch.old (M.state memory.old physical.old) output))) }
 {
     transfer_legal(
         kept,

@@ -66,11 +66,11 @@ fn go_on(arch: &mut Arch, pc: u64) -> Progress
 }
 
 /// Does an instruction that touches no memory.
-pub fn affect(arch: &mut Arch, last: &mut Fault, i: Instr) -> Progress
-    requires registers { NamesRegisters i }
-    ensures { (memory : FlatMemory) (output : List ℕ) → outcome_of result last.new (flat_of arch.new memory output) ≡ Some (affect (flat_of arch.old memory output) i) }
+pub fn affect(arch: &mut Arch, last: &mut Fault, i: &Instr) -> Progress
+    requires registers { NamesRegisters i.now }
+    ensures { (memory : FlatMemory) (output : List ℕ) → outcome_of result last.new (flat_of arch.new memory output) ≡ Some (affect (flat_of arch.old memory output) i.now) }
 {
-    let effect = scalar(&i, &arch.regs, arch.pc);
+    let effect = scalar(i, &arch.regs, arch.pc);
     take(arch, last, i.rd, effect)
 }
 
@@ -97,15 +97,15 @@ pub fn load<P, M: Memory<P>>(
     last: &mut Fault,
     memory: &mut M,
     physical: &mut P,
-    i: Instr,
+    i: &Instr,
 ) -> Progress
-    requires registers { NamesRegisters i }
+    requires registers { NamesRegisters i.now }
     requires fits { M.fits memory.old physical.old }
     ensures fits { M.fits memory.new physical.new }
     ensures rest { M.rest memory.new physical.new ≡ M.rest memory.old physical.old }
-    ensures loaded { (output : List ℕ) → outcome_of result last.new (flat_of arch.new (M.state memory.new physical.new) output) ≡ Some (load (flat_of arch.old (M.state memory.old physical.old) output) i) }
+    ensures loaded { (output : List ℕ) → outcome_of result last.new (flat_of arch.new (M.state memory.new physical.new) output) ≡ Some (load (flat_of arch.old (M.state memory.old physical.old) output) i.now) }
 {
-    let address = scalar_address(&i, &arch.regs);
+    let address = scalar_address(i, &arch.regs);
     match i.op {
         Op::Scalar(ScalarOp::Lb) => {
             load_by_op(
@@ -195,16 +195,16 @@ fn load_by_op<P, M: Memory<P>>(
     last: &mut Fault,
     memory: &mut M,
     physical: &mut P,
-    i: Instr,
+    i: &Instr,
     op: Op,
     address: u64,
 ) -> Progress
-    requires register { i.rd < 32 }
-    requires operation { op ≡ i.op }
+    requires register { i.now.rd < 32 }
+    requires operation { op ≡ i.now.op }
     requires fits { M.fits memory.old physical.old }
     ensures fits { M.fits memory.new physical.new }
     ensures rest { M.rest memory.new physical.new ≡ M.rest memory.old physical.old }
-    ensures loaded { (output : List ℕ) → outcome_of result last.new (flat_of arch.new (M.state memory.new physical.new) output) ≡ Some (load_from (flat_of arch.old (M.state memory.old physical.old) output) i address (access_width i.op)) }
+    ensures loaded { (output : List ℕ) → outcome_of result last.new (flat_of arch.new (M.state memory.new physical.new) output) ≡ Some (load_from (flat_of arch.old (M.state memory.old physical.old) output) i.now address (access_width i.now.op)) }
 {
     let width = access_width(op);
     if is_aligned(address, width) {
@@ -221,19 +221,19 @@ fn load_aligned<P, M: Memory<P>>(
     last: &mut Fault,
     memory: &mut M,
     physical: &mut P,
-    i: Instr,
+    i: &Instr,
     op: Op,
     address: u64,
     width: u64,
 ) -> Progress
-    requires register { i.rd < 32 }
-    requires operation { op ≡ i.op }
+    requires register { i.now.rd < 32 }
+    requires operation { op ≡ i.now.op }
     requires width { IsTrue (is_access_width width) }
     requires aligned { address % width ≡ 0 }
     requires fits { M.fits memory.old physical.old }
     ensures fits { M.fits memory.new physical.new }
     ensures rest { M.rest memory.new physical.new ≡ M.rest memory.old physical.old }
-    ensures loaded { (output : List ℕ) → outcome_of result last.new (flat_of arch.new (M.state memory.new physical.new) output) ≡ Some (load_from (flat_of arch.old (M.state memory.old physical.old) output) i address width) }
+    ensures loaded { (output : List ℕ) → outcome_of result last.new (flat_of arch.new (M.state memory.new physical.new) output) ≡ Some (load_from (flat_of arch.old (M.state memory.old physical.old) output) i.now address width) }
 {
     match memory.load(physical, address, width) {
         Some(n) => {
@@ -251,15 +251,15 @@ pub fn store<P, M: Memory<P>>(
     last: &mut Fault,
     memory: &mut M,
     physical: &mut P,
-    i: Instr,
+    i: &Instr,
 ) -> Progress
-    requires registers { NamesRegisters i }
+    requires registers { NamesRegisters i.now }
     requires fits { M.fits memory.old physical.old }
     ensures fits { M.fits memory.new physical.new }
     ensures rest { M.rest memory.new physical.new ≡ M.rest memory.old physical.old }
-    ensures stored { (output : List ℕ) → outcome_of result last.new (flat_of arch.new (M.state memory.new physical.new) output) ≡ Some (store (flat_of arch.old (M.state memory.old physical.old) output) i) }
+    ensures stored { (output : List ℕ) → outcome_of result last.new (flat_of arch.new (M.state memory.new physical.new) output) ≡ Some (store (flat_of arch.old (M.state memory.old physical.old) output) i.now) }
 {
-    let address = scalar_address(&i, &arch.regs);
+    let address = scalar_address(i, &arch.regs);
     let value = arch.regs.read(i.rs2);
     match i.op {
         Op::Scalar(ScalarOp::Sb) => {

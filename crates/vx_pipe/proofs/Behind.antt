@@ -1,7 +1,7 @@
 -- The fetch behind an instruction that ends the episode.
-use Rattle.std.proofs.Common.{◌≡◌, ℕ, ◌+◌, ◌<◌, ◌≤◌, Bool, true, false, leb, List, [], ◌++◌, None, refl, sym, subst, inl, inr, arith}
+use Rattle.std.proofs.Common.{◌≡◌, ℕ, ◌+◌, ◌<◌, ◌≤◌, Bool, true, false, List, [], ◌++◌, None, refl, sym, subst}
 use Rattle.std.specs.Prelude.{Option, if◌then◌else◌, option_to_list}
-use Rattle.std.proofs.lemmas.Bool.{cases_Bool, leb-true, leb-false}
+use Rattle.std.proofs.lemmas.Bool.{le-leb, lt-leb}
 use Rattle.vx_base.specs.declared.machine.Want.TheVariants.{Fetch}
 use Rattle.vx_cells.specs.Cells.{CellsState}
 use Rattle.vx_image.specs.Pages.{is_canonical, page_of}
@@ -19,30 +19,16 @@ use Rattle.vx_quiet.specs.Quiet.{ended_by}
 use Rattle.vx_pipe.specs.Going.{AreKept}
 use Rattle.vx_pipe.proofs.Fetched.{kept-by}
 
-leb-yes : (a b : ℕ) → a ≤ b → leb a b ≡ true
-leb-yes a b le =
-    elim (cases_Bool (leb a b)) [
-      | inl is ↦ is
-      | inr fails ↦ absurd (omega (arith, leb-false a b fails, le))
-    ]
-
-leb-not : (a b : ℕ) → b < a → leb a b ≡ false
-leb-not a b less =
-    elim (cases_Bool (leb a b)) [
-      | inl holds ↦ absurd (omega (arith, leb-true a b holds, less))
-      | inr is ↦ is
-    ]
-
 module _ (start : Start) (history : History) (pc begun last : ℕ) where
   whole-look : (look : Look) → begun + walk_time start.machine ≤ last → ended_by last (option_to_list (fetch_by start history pc begun look).walk) ≡ option_to_list (fetch_by start history pc begun look).walk
   whole-look (Hit frame) by = refl
   whole-look Denied by = refl
-  whole-look Miss by = rw (leb-yes (begun + walk_time start.machine) last by) refl
+  whole-look Miss by = rw (le-leb (begun + walk_time start.machine) last by) refl
 
   none-look : (look : Look) → last < begun + walk_time start.machine → ended_by last (option_to_list (fetch_by start history pc begun look).walk) ≡ []
   none-look (Hit frame) late = refl
   none-look Denied late = refl
-  none-look Miss late = rw (leb-not (begun + walk_time start.machine) last late) refl
+  none-look Miss late = rw (lt-leb (begun + walk_time start.machine) last late) refl
 
   abbrev times : Bool → Look → FetchTimes
   times b look = if b then fetch_by start history pc begun look else record { begun = At begun; ended = At begun; walk = None }

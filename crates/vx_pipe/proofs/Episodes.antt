@@ -97,7 +97,7 @@ same-end a b o one other = let both : Some a ≡ Some b = sym one ∙ other in c
 
 module _ (machine : Organisation) (root until : ℕ) (placement : List FramedPage) (start : Start) (from : Process) (first cells after : CellsState) (registers : Registers) (why : Ended) (clock : ℕ) (course : Course) (counts : Counts)
     (on : IsEpisodeOn machine root placement start) (kept : IsPlacement placement) (o : IsOver start until from first why clock course cells (shown_state registers placement cells from.state.output)) where
-  left-as : IsWhole (shown placement cells.contents) → (p : Process) → p ≡ o.ending.process → counts.completed ≡ course.completed → IsLeft from p why counts.completed
+  left-as : IsWhole (shown placement cells.contents) → (p : Process) → p ≡ o.ending.process → counts.retired ≡ course.completed → IsLeft from p why counts.retired
   left-as whole p is completed =
       let stands : StandsFor (shown_state registers placement cells from.state.output) p.state = subst (λ (q : Process). StandsFor (shown_state registers placement cells from.state.output) q.state) (sym is) o.stands in
       record {
@@ -107,8 +107,8 @@ module _ (machine : Organisation) (root until : ℕ) (placement : List FramedPag
       }
 
   pub plays-placed : ((placement : List FramedPage) (residency : Residency) (walks : List Walk) → IsPlacement placement → IsPlacedAs placement residency → IsPlacedAs placement (after_walks residency walks))
-      → IsWhole (shown placement cells.contents) → counts.completed ≡ course.completed
-      → Plays start until from first after registers why counts.commits counts.completed counts.changed
+      → IsWhole (shown placement cells.contents) → counts.retired ≡ course.completed
+      → Plays start until from first after registers why counts.commits counts.retired counts.dirtied
       → PlaysPlaced start until from first after registers why counts placement
   plays-placed is_placed whole completed plays =
       let same : plays.result ≡ o.ends.result = same-end plays.result o.ends.result _ plays.is o.ends.is in

@@ -1,7 +1,7 @@
 -- A fetch goes from an instruction's beginning to its issue.
 use Rattle.std.proofs.Common.{◌≡◌, ℕ, ◌+◌, ◌*◌, ◌/◌, ◌<◌, ◌≤◌, Bool, true, false, ◌&&◌, leb, ltb, List, ◌++◌, None, refl, sym, ap, subst, ◌∙◌, inl, inr, arith}
 use Rattle.std.specs.Prelude.{Option, ◌⊎◌, if◌then◌else◌, option_to_list}
-use Rattle.std.proofs.lemmas.Bool.{cases_Bool, leb-true, ltb-true}
+use Rattle.std.proofs.lemmas.Bool.{lt-leb, le-ltb}
 use Rattle.std.proofs.Math.Bool.{and-false}
 use Rattle.vx_cells.specs.Cells.{CellsState}
 use Rattle.vx_image.specs.Pages.{is_canonical, page_of}
@@ -29,23 +29,9 @@ use Rattle.vx_pipe.specs.Going.{AreKept, AreLeft, IsGoing, IsIssuing}
 
 -- ---- words that are in no table
 
-leb-not : (a b : ℕ) → b < a → leb a b ≡ false
-leb-not a b less =
-    elim (cases_Bool (leb a b)) [
-      | inl holds ↦ absurd (omega (arith, leb-true a b holds, less))
-      | inr is ↦ is
-    ]
-
-ltb-not : (a b : ℕ) → b ≤ a → ltb a b ≡ false
-ltb-not a b le =
-    elim (cases_Bool (ltb a b)) [
-      | inl holds ↦ absurd (omega (arith, ltb-true a b holds, le))
-      | inr is ↦ is
-    ]
-
 outside : (first count word : ℕ) → (word / 512 < first) ⊎ (first + count ≤ word / 512) → (leb (512 * first) word && ltb word (512 * (first + count))) ≡ false
-outside first count word (inl below) = rw (leb-not (512 * first) word (omega (arith, below))) refl
-outside first count word (inr behind) = rw (ltb-not word (512 * (first + count)) (omega (arith, behind))) (and-false (leb (512 * first) word))
+outside first count word (inl below) = rw (lt-leb (512 * first) word (omega (arith, below))) refl
+outside first count word (inr behind) = rw (le-ltb word (512 * (first + count)) (omega (arith, behind))) (and-false (leb (512 * first) word))
 
 pub left-by : (start : Start) (first before after : CellsState) → AreLeft start first before → SameBut start.root (table_count (pages_of start.residency)) before.contents after.contents → AreLeft start first after
 left-by start first before after left same word elsewhere =

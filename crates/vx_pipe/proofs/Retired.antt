@@ -1,8 +1,8 @@
 -- An instruction retires: the episode goes on, or it ends there.
-use Rattle.std.proofs.Common.{◌≡◌, ℕ, ◌+◌, ◌<◌, Bool, false, ◌||◌, leb, List, [], ◌∷◌, ◌++◌, refl, sym, ap, subst, ◌∙◌, inl, inr, arith}
+use Rattle.std.proofs.Common.{◌≡◌, ℕ, ◌+◌, ◌<◌, Bool, false, ◌||◌, List, [], ◌∷◌, ◌++◌, refl, sym, ap, subst, ◌∙◌, arith}
 use Rattle.std.specs.Prelude.{if◌then◌else◌, option_to_list}
 use Rattle.std.specs.List.{list_any}
-use Rattle.std.proofs.lemmas.Bool.{cases_Bool, leb-true}
+use Rattle.std.proofs.lemmas.Bool.{lt-leb}
 use Rattle.std.proofs.lemmas.List.{append_assoc}
 use Rattle.std.proofs.lemmas.List.Folds.{list_any-append}
 use Rattle.std.proofs.lemmas.Grind.{flat_map-append}
@@ -29,13 +29,6 @@ use Rattle.vx_pipe.specs.Going.{AreKept, Caches, IsGoing, IsOver}
 use Rattle.vx_pipe.specs.Retiring.{IsRetiring, retired_course}
 use Rattle.vx_pipe.proofs.Come.{come-completes}
 
-leb-not : (a b : ℕ) → b < a → leb a b ≡ false
-leb-not a b less =
-    elim (cases_Bool (leb a b)) [
-      | inl holds ↦ absurd (omega (arith, leb-true a b holds, less))
-      | inr is ↦ is
-    ]
-
 none-of : (until : ℕ) (before : List Happening) (h : Happening) → list_any (ends until) before ≡ false → ends until h ≡ false → list_any (ends until) (before ++ h ∷ []) ≡ false
 none-of until before h none not = list_any-append (ends until) before (h ∷ []) ∙ (λ i. none i || (not i || false))
 
@@ -56,7 +49,7 @@ module _ (start : Start) (until : ℕ) (from : Process) (first : CellsState) (co
       → completed + 1 < until → IsGoing start until from first (retired_course course issued completed commits jumps changes) caches cells u
   goes counted next early =
       let last : Happening = happening e Completes (completed + 1) in
-      let none = ap (list_any (ends until)) r.happens ∙ none-of until r.before last r.none_ends (leb-not until (completed + 1) early) in
+      let none = ap (list_any (ends until)) r.happens ∙ none-of until r.before last r.none_ends (lt-leb until (completed + 1) early) in
       let some : commits_in (happenings_of (last_retire start.cycle r.history) e) ≡ commits + 1 = ap commits_in r.happens ∙ counted r.before (last ∷ []) ∙ ap (λ (n : ℕ). n + 1) r.commits_are in
       let count : course.commits + commits_in (happenings_of (last_retire start.cycle r.history) e) ≡ course.commits + commits + 1 = omega (arith, some) in
       record {

@@ -1,6 +1,7 @@
 -- The code's retire and the law of it.
 use Rattle.std.proofs.Common.{◌≡◌, ℕ, ◌+◌, ◌≤◌, Bool, ◌∷◌, ◌++◌, sym, ap, subst, ◌∙◌}
 use Rattle.std.specs.Prelude.{if◌then◌else◌, option_to_list}
+use Rattle.vx_base.specs.declared.machine.Fault.{Fault}
 use Rattle.vx_cells.specs.Cells.{CellsState}
 use Rattle.vx_flat.specs.Process.{Process}
 use Rattle.vx_flat.specs.State.{Flat}
@@ -9,27 +10,15 @@ use Rattle.vx_tables.specs.Tables.{AreHeld, SameBut, table_count}
 use Rattle.vx_episode.specs.Commits.{entry_of}
 use Rattle.vx_episode.specs.Cycles.Cycle.{At}
 use Rattle.vx_episode.specs.Episode.{trap_cycles}
-use Rattle.vx_episode.specs.History.{History, after_walks, data_walks, fetch_walks, fills_of}
+use Rattle.vx_episode.specs.History.{History, after_walks, data_walks, fetch_walks}
 use Rattle.vx_episode.specs.Instructions.{fetch_times, residency_now}
 use Rattle.vx_episode.specs.Organisation.{Start}
 use Rattle.vx_episode.specs.declared.ended.Ended.TheVariants as ended
 use Rattle.vx_quiet.specs.Quiet.{ended_by}
 use Rattle.vx_course.specs.Course.{Course}
-use Rattle.vx_tlb.specs.Kept.{StandsFor}
+use Rattle.vx_pipe.specs.Ending.{KeptBehind, OthersBehind}
 use Rattle.vx_pipe.specs.Going.{AreKept, Caches, IsOver}
 use Rattle.vx_pipe.specs.Retiring.{IsRetiring, retired_course}
-
--- what the fetch behind an instruction that ends the episode leaves, and which words it leaves
-abbrev pub KeptBehind : (root bank_time pc begun last : ℕ) → Caches → (before after : CellsState) → Type 0
-KeptBehind root bank_time pc begun last caches before after =
-    (start : Start) (history : History) (first : CellsState) → start.root ≡ root → start.machine.bank_time ≡ bank_time → StandsFor caches.fetches (fills_of (fetch_walks history))
-    → AreKept start (residency_now start history) first before
-    → AreKept start (after_walks start.residency ((ended_by last (option_to_list (fetch_times start history pc (At begun)).walk) ++ fetch_walks history) ++ data_walks history)) first after
-
-abbrev pub OthersBehind : (root bank_time : ℕ) → Caches → (before after : CellsState) → Type 0
-OthersBehind root bank_time caches before after =
-    (start : Start) (history : History) → start.machine.bank_time ≡ bank_time → StandsFor caches.fetches (fills_of (fetch_walks history)) → AreHeld before root (residency_now start history)
-    → SameBut root (table_count (pages_of start.residency)) before.contents after.contents
 
 abbrev pub EndsLaw : Type 0
 EndsLaw = (start : Start) (until : ℕ) (from : Process) (first : CellsState) (course : Course) (issued completed commits : ℕ) (jumps changes : Bool) (caches : Caches) (cells after : CellsState) (u : Flat) (pc : ℕ) → start.machine.window ≡ 1
@@ -61,3 +50,18 @@ module _ (start : Start) (root until : ℕ) (from : Process) (first : CellsState
 
 pub bank-time : (time other result : ℕ) → time ≡ other → result ≡ other → time ≡ result
 bank-time time other result one two = one ∙ sym two
+
+-- an episode that is over with a fault, in the numbers that the code has
+pub over-same : (start : Start) (until : ℕ) (from : Process) (first : CellsState) (fault now : Fault) (clock at : ℕ) (course next : Course) → now ≡ fault → at ≡ clock → next ≡ course → (cells : CellsState) (u : Flat)
+    → IsOver start until from first (ended.Faulted fault) clock course cells u → IsOver start until from first (ended.Faulted now) at next cells u
+over-same start until from first fault now clock at course next faults ends counts cells u over =
+    subst (λ (f : Fault). IsOver start until from first (ended.Faulted f) at next cells u) (sym faults)
+    (subst (λ (n : ℕ). IsOver start until from first (ended.Faulted fault) n next cells u) (sym ends)
+    (subst (λ (k : Course). IsOver start until from first (ended.Faulted fault) clock k cells u) (sym counts) over))
+
+-- and one whose slice ended
+pub slice-same : (start : Start) (until : ℕ) (from : Process) (first : CellsState) (clock at : ℕ) (course next : Course) → at ≡ clock → next ≡ course → (cells : CellsState) (u : Flat)
+    → IsOver start until from first ended.Slice clock course cells u → IsOver start until from first ended.Slice at next cells u
+slice-same start until from first clock at course next ends counts cells u over =
+    subst (λ (n : ℕ). IsOver start until from first ended.Slice n next cells u) (sym ends)
+    (subst (λ (k : Course). IsOver start until from first ended.Slice clock k cells u) (sym counts) over)

@@ -54,7 +54,7 @@ use Rattle.vx_pipe.proofs.TransferElements.{EndsBehindOne}
 use Rattle.vx_pipe.proofs.TransferSteps.{BatchesBegin}
 use Rattle.vx_pipe.proofs.Plainly.{halts-at, illegal-next}
 use Rattle.vx_pipe.proofs.Stopping.{AtIssue, over-faulted}
-use Rattle.vx_pipe.proofs.Retires.{OthersBehind}
+use Rattle.vx_pipe.specs.Ending.{OthersBehind}
 use Rattle.vx_pipe.proofs.TransferLoop.{no-batches-left}
 use Rattle.vx_pipe.proofs.TransferOver.{batch-with, vlen-stays}
 use Rattle.vx_pipe.proofs.TransferValues.{all-free, none-below}

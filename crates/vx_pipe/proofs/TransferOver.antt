@@ -38,7 +38,7 @@ use Rattle.vx_serve.specs.Stamps.{BankStamps}
 use Rattle.vx_pipe.specs.Going.{AreKept, IsEpisodeOn, IsIssuing, IsOver}
 use Rattle.vx_pipe.specs.Left.{HasCome}
 use Rattle.vx_pipe.proofs.Kept.{PagedLaws, kept-through}
-use Rattle.vx_pipe.proofs.Retires.{KeptBehind}
+use Rattle.vx_pipe.specs.Ending.{KeptBehind}
 
 -- ---- the pc behind a vector load or store, also where it fails
 

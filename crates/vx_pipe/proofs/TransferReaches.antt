@@ -40,7 +40,7 @@ use Rattle.vx_pipe.specs.declared.passing.Passing.{Passing}
 use Rattle.vx_pipe.proofs.Come.{come-within}
 use Rattle.vx_pipe.proofs.Completing.{StepLaws}
 use Rattle.vx_pipe.proofs.Kept.{PagedLaws}
-use Rattle.vx_pipe.proofs.Retires.{KeptBehind}
+use Rattle.vx_pipe.specs.Ending.{KeptBehind}
 use Rattle.vx_pipe.proofs.TransferCourse.{issued-is, kept-walks}
 use Rattle.vx_pipe.proofs.TransferLoop.{AddCommits, CommitMore, one-less}
 use Rattle.vx_pipe.proofs.TransferOver.{over-by, walks-with}

@@ -74,6 +74,6 @@ pub record IsLeft (before after : Process) (why : Ended) (completed : ℕ) : Typ
 
 -- an episode was played, and the process's pages are where the placement says
 pub record PlaysPlaced (start : Start) (until : ℕ) (process : Process) (before after : CellsState) (registers : Registers) (why : Ended) (counts : Counts) (placement : List FramedPage) : Type 0 where
-  pub plays : Plays start until process before after registers why counts.commits counts.completed counts.changed
+  pub plays : Plays start until process before after registers why counts.commits counts.retired counts.dirtied
   pub placed : IsPlacedAs placement plays.result.residency
-  pub left : IsLeft process plays.result.process why counts.completed
+  pub left : IsLeft process plays.result.process why counts.retired

@@ -1,6 +1,7 @@
 pub mod Accessing
 pub mod Beating
 pub mod Classes
+pub mod Ending
 pub mod Going
 pub mod Left
 pub mod Pipes

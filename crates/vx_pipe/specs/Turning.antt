@@ -23,8 +23,9 @@ use Rattle.vx_pipe.specs.declared.turn.Turn.TheVariants.{Goes, Slice, Service, F
 
 -- ---- what an engine holds
 
+-- each instruction that completed was committed, and so was what some reached before
 abbrev pub course_of : code.Course → Course
-course_of c = record { retired = c.retired; begun = c.begun; commits = c.commits; completed = c.completed; changed = c.changed }
+course_of c = record { retired = c.retired; begun = c.begun; commits = c.completed + c.reached; completed = c.completed; changed = c.changed }
 
 abbrev pub caches_of : Engine → Caches
 caches_of engine = record { loads = engine.loads; fetches = engine.fetches; stamps = engine.banks }

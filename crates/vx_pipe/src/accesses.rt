@@ -5,18 +5,22 @@ ghost use Rattle.vx_cells.specs.Cells.{CellsState};
 ghost use Rattle.vx_decode.specs.Encoded.{IsValid};
 ghost use Rattle.vx_episode.specs.Organisation.{Start};
 ghost use Rattle.vx_flat.specs.Process.{Process};
+ghost use Rattle.vx_flat.specs.Step.{meaning};
+ghost use Rattle.vx_hart.specs.Outcomes.{outcome_next, outcome_of};
+ghost use Rattle.vx_paged.specs.Left.{Fits, rest_of};
 ghost use Rattle.vx_pipe.specs.Accessing.{IsAccessClass, wanted_as};
 ghost use Rattle.vx_pipe.specs.Going.{IsEpisodeOn, IsIssuing};
 ghost use Rattle.vx_pipe.specs.Left.{registers_of};
 ghost use Rattle.vx_pipe.specs.Playing.{shown_state};
 ghost use Rattle.vx_pipe.specs.Turning.{HasTurned, IsIssued, IsTimely, caches_of, course_of, machine_of};
 ghost use Rattle.vx_rows.specs.Table.{class_of};
+ghost use Rattle.vx_rows.specs.declared.row.Class.TheVariants as class;
 ghost use Rattle.vx_serve.specs.Fates.{told};
 ghost use Rattle.vx_serve.specs.InTurn.{is_good};
 
+use crate::ending::end_behind;
 use crate::engine::Engine;
-use crate::fetches::fetch_behind;
-use crate::retire::{TRAP_CYCLES, retire};
+use crate::retire::{issue, retire};
 use crate::turn::Turn;
 use vx_base::Want;
 use vx_batching::{
@@ -25,9 +29,9 @@ use vx_batching::{
 };
 use vx_cells::Cells;
 use vx_course::courses_end;
-use vx_decode::Known;
+use vx_decode::Instr;
 use vx_flat::runs_are_well_formed;
-use vx_hart::Arch;
+use vx_hart::{Arch, Executor, Progress};
 use vx_look::walks_commute;
 use vx_paged::{Paged, tables_stay, walks_leave_pages};
 use vx_pending::{
@@ -60,8 +64,34 @@ fn is_good(fate: Fate) -> bool
     }
 }
 
-/// Does a scalar load or store that was issued: it completes once its access is done, or the episode ends with its fault.
-pub(crate) fn access<C: Cells>(
+/// Does a scalar load or store, by its class.
+#[inline(always)]
+fn perform<C: Cells>(
+    executor: &mut Executor,
+    arch: &mut Arch,
+    memory: &mut Paged,
+    physical: &mut C,
+    class: Class,
+    i: &Instr,
+) -> Progress
+    requires valid { IsValid i.now }
+    requires class { class ≡ class_of i.now.op }
+    requires access { IsAccessClass class }
+    requires fits { Fits memory.old (C.state physical.old) }
+    ensures rest { rest_of memory.new (C.state physical.new) ≡ rest_of memory.old (C.state physical.old) }
+    ensures performed { (word : ℕ) (output : List ℕ) → let s = shown_state (registers_of arch.old) memory.old (C.state physical.old) output in
+        outcome_of result executor.new (shown_state (registers_of arch.new) memory.new (C.state physical.new) output) ≡ outcome_next s (meaning s word (Some i.now)) }
+{
+    match class {
+        Class::Store => executor.store(arch, memory, physical, i),
+        _ => executor.load(arch, memory, physical, i),
+    }
+}
+
+/// Does a scalar load or store that was issued: it completes once its access is done, or the episode ends with its fault. The class
+/// stands as a literal where it is called.
+#[inline(always)]
+fn access<C: Cells>(
     engine: &mut Engine,
     cells: &mut C,
     arch: &mut Arch,
@@ -70,12 +100,14 @@ pub(crate) fn access<C: Cells>(
     until: u64,
     fetched: u64,
     word: u32,
-    known: Known,
+    class: Class,
+    i: &Instr,
 ) -> Turn
-    requires valid { IsValid known.instr }
-    requires class { IsAccessClass known.class }
+    requires valid { IsValid i.now }
+    requires class { class ≡ class_of i.now.op }
+    requires access { IsAccessClass class }
     requires until { until ≤ 2 ^ 42 }
-    requires issued { IsIssued (machine_of engine.old) root until memory.old (course_of engine.old.course) fetched (caches_of engine.old) (C.state cells.old) (registers_of arch.old) word known.instr }
+    requires issued { IsIssued (machine_of engine.old) root until memory.old (course_of engine.old.course) fetched (caches_of engine.old) (C.state cells.old) (registers_of arch.old) word i.now }
     ensures turned { (start : Start) (from : Process) (first : CellsState) (output : List ℕ) → IsEpisodeOn (machine_of engine.old) root memory.old start
         → IsIssuing start until from first (course_of engine.old.course) fetched (caches_of engine.old) (C.state cells.old) (shown_state (registers_of arch.old) memory.old (C.state cells.old) output)
         → HasTurned result engine.new.fault start until from first (course_of engine.new.course) (caches_of engine.new) (C.state cells.new) (shown_state (registers_of arch.new) memory.new (C.state cells.new) output) }
@@ -100,16 +132,17 @@ pub(crate) fn access<C: Cells>(
     tables_stay();
     walks_commute();
     walks_leave_pages();
+    let _ = word;
     let bank_time = u64::from(engine.bank_time);
-    let want = wanted_as(known.class);
-    let address = scalar_address(&known.instr, &arch.regs);
-    let width = access_width(known.instr.op);
+    let want = wanted_as(class);
+    let address = scalar_address(i, &arch.regs);
+    let width = access_width(i.op);
     let behind = arch.pc.wrapping_add(4);
-    let issued = u64::max(fetched, engine.course.retired + 1);
+    let issued = issue(fetched, engine.course.retired);
     let looked = engine
         .loads
         .look_one(cells, root, bank_time, want, issued + 1, address, width);
-    engine.executor.execute(arch, memory, cells, word, known);
+    perform(&mut engine.executor, arch, memory, cells, class, i);
     if is_good(looked.fate) {
         let served = engine.banks.serve_one(looked.fate);
         let completed = u64::max(looked.ended, served.done);
@@ -118,14 +151,81 @@ pub(crate) fn access<C: Cells>(
         );
     }
     engine.fault = engine.executor.fault();
-    fetch_behind(
-        &mut engine.fetches,
+    Turn::Faulted(end_behind(engine, cells, root, behind, issued + 1, looked.ended))
+}
+
+/// Does a scalar load that was issued.
+#[inline(never)]
+pub(crate) fn do_load<C: Cells>(
+    engine: &mut Engine,
+    cells: &mut C,
+    arch: &mut Arch,
+    memory: &mut Paged,
+    root: u32,
+    until: u64,
+    fetched: u64,
+    word: u32,
+    i: &Instr,
+) -> Turn
+    requires valid { IsValid i.now }
+    requires class { class_of i.now.op ≡ class.Load }
+    requires until { until ≤ 2 ^ 42 }
+    requires issued { IsIssued (machine_of engine.old) root until memory.old (course_of engine.old.course) fetched (caches_of engine.old) (C.state cells.old) (registers_of arch.old) word i.now }
+    ensures turned { (start : Start) (from : Process) (first : CellsState) (output : List ℕ) → IsEpisodeOn (machine_of engine.old) root memory.old start
+        → IsIssuing start until from first (course_of engine.old.course) fetched (caches_of engine.old) (C.state cells.old) (shown_state (registers_of arch.old) memory.old (C.state cells.old) output)
+        → HasTurned result engine.new.fault start until from first (course_of engine.new.course) (caches_of engine.new) (C.state cells.new) (shown_state (registers_of arch.new) memory.new (C.state cells.new) output) }
+    ensures timely { IsTimely result (course_of engine.old.course) (course_of engine.new.course) }
+    ensures machine { machine_of engine.new ≡ machine_of engine.old }
+    ensures memory { memory.new ≡ memory.old }
+{
+    access(
+        engine,
         cells,
+        arch,
+        memory,
         root,
-        bank_time,
-        behind,
-        issued + 1,
-        looked.ended,
-    );
-    Turn::Faulted(looked.ended + TRAP_CYCLES)
+        until,
+        fetched,
+        word,
+        Class::Load,
+        i,
+    )
+}
+
+/// Does a scalar store that was issued.
+#[inline(never)]
+pub(crate) fn do_store<C: Cells>(
+    engine: &mut Engine,
+    cells: &mut C,
+    arch: &mut Arch,
+    memory: &mut Paged,
+    root: u32,
+    until: u64,
+    fetched: u64,
+    word: u32,
+    i: &Instr,
+) -> Turn
+    requires valid { IsValid i.now }
+    requires class { class_of i.now.op ≡ class.Store }
+    requires until { until ≤ 2 ^ 42 }
+    requires issued { IsIssued (machine_of engine.old) root until memory.old (course_of engine.old.course) fetched (caches_of engine.old) (C.state cells.old) (registers_of arch.old) word i.now }
+    ensures turned { (start : Start) (from : Process) (first : CellsState) (output : List ℕ) → IsEpisodeOn (machine_of engine.old) root memory.old start
+        → IsIssuing start until from first (course_of engine.old.course) fetched (caches_of engine.old) (C.state cells.old) (shown_state (registers_of arch.old) memory.old (C.state cells.old) output)
+        → HasTurned result engine.new.fault start until from first (course_of engine.new.course) (caches_of engine.new) (C.state cells.new) (shown_state (registers_of arch.new) memory.new (C.state cells.new) output) }
+    ensures timely { IsTimely result (course_of engine.old.course) (course_of engine.new.course) }
+    ensures machine { machine_of engine.new ≡ machine_of engine.old }
+    ensures memory { memory.new ≡ memory.old }
+{
+    access(
+        engine,
+        cells,
+        arch,
+        memory,
+        root,
+        until,
+        fetched,
+        word,
+        Class::Store,
+        i,
+    )
 }

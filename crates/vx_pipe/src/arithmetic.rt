@@ -31,8 +31,9 @@ ghost use Rattle.vx_rows.specs.declared.row.Class.TheVariants.{VectorArithmetic}
 ghost use Rattle.vx_vector.specs.Reading.{Reading};
 ghost use Rattle.vx_vector.specs.Words.{handled_words};
 
+use crate::ending::TRAP_CYCLES;
 use crate::engine::Engine;
-use crate::retire::{TRAP_CYCLES, retire};
+use crate::retire::{issue, retire};
 use crate::turn::Turn;
 use vx_base::Fault;
 use vx_beats::{beat_count, latency_of, step_of};
@@ -106,13 +107,13 @@ pub(crate) fn calculate<C: Cells>(
     until: u64,
     fetched: u64,
     word: u32,
-    known: Known,
+    known: &Known,
     family: Family,
 ) -> Turn
-    requires valid { IsValid known.instr }
-    requires class { class_of known.instr.op ≡ VectorArithmetic family }
+    requires valid { IsValid known.now.instr }
+    requires class { class_of known.now.instr.op ≡ VectorArithmetic family }
     requires until { until ≤ 2 ^ 42 }
-    requires issued { IsIssued (machine_of engine.old) root until memory.now (course_of engine.old.course) fetched (caches_of engine.old) (C.state cells.old) (registers_of arch.old) word known.instr }
+    requires issued { IsIssued (machine_of engine.old) root until memory.now (course_of engine.old.course) fetched (caches_of engine.old) (C.state cells.old) (registers_of arch.old) word known.now.instr }
     ensures turned { (start : Start) (from : Process) (first : CellsState) (output : List ℕ) → IsEpisodeOn (machine_of engine.old) root memory.now start
         → IsIssuing start until from first (course_of engine.old.course) fetched (caches_of engine.old) (C.state cells.old) (shown_state (registers_of arch.old) memory.now (C.state cells.old) output)
         → HasTurned result engine.new.fault start until from first (course_of engine.new.course) (caches_of engine.new) (C.state cells.new) (shown_state (registers_of arch.new) memory.now (C.state cells.new) output) }
@@ -120,7 +121,7 @@ pub(crate) fn calculate<C: Cells>(
     ensures machine { machine_of engine.new ≡ machine_of engine.old }
 {
     calculations_are_done();
-    let issued = u64::max(fetched, engine.course.retired + 1);
+    let issued = issue(fetched, engine.course.retired);
     let Some(at) = engine.executor.calculation(arch, &known.instr) else {
         engine.fault = refusal(arch, word);
         return Turn::Faulted(issued + TRAP_CYCLES);

@@ -1,9 +1,9 @@
 /// What an engine counts in an episode.
 #[derive(Clone, Copy, PartialEq, Eq, Debug)]
 pub struct Counts {
-    /// How often something was committed, and how many instructions completed.
+    /// How many instructions retired, and how often something was committed.
+    pub retired: u64,
     pub commits: u64,
-    pub completed: u64,
     /// Something was committed that changes the vector state.
-    pub changed: bool,
+    pub dirtied: bool,
 }

@@ -16,10 +16,11 @@ ghost use Rattle.vx_rows.specs.Table.{class_of};
 ghost use Rattle.vx_rows.specs.declared.row.Class.TheVariants as class;
 
 use crate::ahead::look_ahead;
+use crate::ending::TRAP_CYCLES;
 use crate::engine::Engine;
 use crate::fetches::fetch_behind;
 use crate::passing::{Passing, Way, pass_elements};
-use crate::retire::{TRAP_CYCLES, retire};
+use crate::retire::{issue, retire};
 use crate::turn::Turn;
 use vx_base::Want;
 use vx_batching::{
@@ -63,16 +64,16 @@ pub(crate) fn move_by<C: Cells>(
     until: u64,
     fetched: u64,
     word: u32,
-    known: Known,
+    known: &Known,
     direction: Direction,
     addressing: Addressing,
     encoded: Eew,
 ) -> Turn
-    requires valid { IsValid known.instr }
-    requires row { (class_of known.instr.op ≡ class.VectorLoad addressing encoded) ⊎ (class_of known.instr.op ≡ class.VectorStore addressing encoded) }
-    requires class { class_of known.instr.op ≡ class_by (direction_of direction) addressing encoded }
+    requires valid { IsValid known.now.instr }
+    requires row { (class_of known.now.instr.op ≡ class.VectorLoad addressing encoded) ⊎ (class_of known.now.instr.op ≡ class.VectorStore addressing encoded) }
+    requires class { class_of known.now.instr.op ≡ class_by (direction_of direction) addressing encoded }
     requires until { until ≤ 2 ^ 42 }
-    requires issued { IsIssued (machine_of engine.old) root until memory.old (course_of engine.old.course) fetched (caches_of engine.old) (C.state cells.old) (registers_of arch.old) word known.instr }
+    requires issued { IsIssued (machine_of engine.old) root until memory.old (course_of engine.old.course) fetched (caches_of engine.old) (C.state cells.old) (registers_of arch.old) word known.now.instr }
     ensures turned { (start : Start) (from : Process) (first : CellsState) (output : List ℕ) → IsEpisodeOn (machine_of engine.old) root memory.old start
         → IsIssuing start until from first (course_of engine.old.course) fetched (caches_of engine.old) (C.state cells.old) (shown_state (registers_of arch.old) memory.old (C.state cells.old) output)
         → HasTurned result engine.new.fault start until from first (course_of engine.new.course) (caches_of engine.new) (C.state cells.new) (shown_state (registers_of arch.new) memory.new (C.state cells.new) output) }
@@ -101,7 +102,7 @@ pub(crate) fn move_by<C: Cells>(
     tables_stay();
     walks_commute();
     walks_leave_pages();
-    let issued = u64::max(fetched, engine.course.retired + 1);
+    let issued = issue(fetched, engine.course.retired);
     let Some((pattern, at)) = engine
         .executor
         .movement(arch, addressing, encoded, &known.instr)
@@ -180,7 +181,7 @@ pub(crate) fn move_by<C: Cells>(
                 .executor
                 .transfer(arch, memory, cells, direction, addressing, &pattern, &at);
             engine.fault = engine.executor.fault();
-            engine.course.commits += commits;
+            engine.course.reached += commits;
             engine.course.changed |= at.vstart < element;
             Turn::Faulted(last.max(numbers.done) + TRAP_CYCLES)
         }
@@ -215,7 +216,7 @@ pub(crate) fn move_by<C: Cells>(
                 .reach(arch, memory, cells, direction, &pattern, &at, element);
             let vlen = arch.v.vlen();
             let _vlen = vlen;
-            engine.course.commits += commits;
+            engine.course.reached += commits;
             engine.course.changed = true;
             Turn::Slice(last.max(done) + TRAP_CYCLES)
         }

@@ -53,8 +53,8 @@ fn begun_at(cycle: u64) -> Course
     Course {
         retired: cycle,
         begun: cycle + 1,
-        commits: 0,
         completed: 0,
+        reached: 0,
         changed: false,
     }
 }
@@ -80,7 +80,7 @@ impl Pipe {
     pub fn new(alloc: Global, options: &Options) -> Result<Pipe, AllocError>
         requires { options.now.window ≡ 1 }
         ensures machine { IfOk result (λ p. p.machine ≡ organisation_of options.now) }
-        ensures counts { IfOk result (λ p. p.counts ≡ record { commits = 0; completed = 0; changed = false }) }
+        ensures counts { IfOk result (λ p. p.counts ≡ record { retired = 0; commits = 0; dirtied = false }) }
     {
         let executor = Executor::new(alloc)?;
         let loads = DataLookUps::new(alloc)?;
@@ -121,7 +121,7 @@ impl Pipe {
             → PlaysPlaced (record { machine = self.old.machine; cycle = (C.state cells.old).cycle; residency = residency; root = root; has_vectors = true }) until process (C.state cells.old) (C.state cells.new) (registers_of arch.new) result self.new.counts memory.new }
         ensures memory { memory.new ≡ memory.old }
         ensures machine { self.new.machine ≡ self.old.machine }
-        ensures later { (C.state cells.old).cycle + self.new.counts.completed < (C.state cells.new).cycle }
+        ensures later { (C.state cells.old).cycle + self.new.counts.retired < (C.state cells.new).cycle }
         ensures bounded { (C.state cells.new).cycle ≤ 2 ^ 43 }
     {
         episodes_are_played();
@@ -141,9 +141,9 @@ impl Pipe {
     {
         let course = &self.engine.course;
         Counts {
-            commits: course.commits,
-            completed: course.completed,
-            changed: course.changed,
+            retired: course.completed,
+            commits: course.completed + course.reached,
+            dirtied: course.changed,
         }
     }
 }

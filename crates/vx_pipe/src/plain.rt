@@ -1,4 +1,4 @@
-//! Instructions without accesses.
+//! Instructions without accesses, of any class: those that access control registers, configure vectors or trap.
 
 ghost use Rattle.std.specs.Prelude.{◌≡◌, ℕ, ◌≤◌, ◌^◌, true, List};
 ghost use Rattle.vx_cells.specs.Cells.{CellsState};
@@ -12,9 +12,10 @@ ghost use Rattle.vx_pipe.specs.Playing.{shown_state};
 ghost use Rattle.vx_pipe.specs.Turning.{HasTurned, IsIssued, IsTimely, caches_of, course_of, machine_of};
 
 use crate::classes::{changes_as, jumps_as, span_of};
+use crate::ending::TRAP_CYCLES;
 use crate::engine::Engine;
 use crate::laws::plain_instructions_are_done;
-use crate::retire::{TRAP_CYCLES, issue, retire};
+use crate::retire::{issue, retire};
 use crate::turn::Turn;
 use vx_cells::Cells;
 use vx_decode::Known;
@@ -22,7 +23,7 @@ use vx_hart::{Arch, Progress};
 use vx_paged::{Paged, walks_leave_pages};
 
 /// Does an instruction without accesses.
-#[inline(always)]
+#[inline(never)]
 pub(crate) fn do_plain<C: Cells>(
     engine: &mut Engine,
     cells: &mut C,
@@ -32,12 +33,12 @@ pub(crate) fn do_plain<C: Cells>(
     until: u64,
     fetched: u64,
     word: u32,
-    known: Known,
+    known: &Known,
 ) -> Turn
-    requires valid { IsValid known.instr }
-    requires class { is_plain known.class ≡ true }
+    requires valid { IsValid known.now.instr }
+    requires class { is_plain known.now.class ≡ true }
     requires until { until ≤ 2 ^ 42 }
-    requires issued { IsIssued (machine_of engine.old) root until memory.old (course_of engine.old.course) fetched (caches_of engine.old) (C.state cells.old) (registers_of arch.old) word known.instr }
+    requires issued { IsIssued (machine_of engine.old) root until memory.old (course_of engine.old.course) fetched (caches_of engine.old) (C.state cells.old) (registers_of arch.old) word known.now.instr }
     ensures turned { (start : Start) (from : Process) (first : CellsState) (output : List ℕ) → IsEpisodeOn (machine_of engine.old) root memory.old start
         → IsIssuing start until from first (course_of engine.old.course) fetched (caches_of engine.old) (C.state cells.old) (shown_state (registers_of arch.old) memory.old (C.state cells.old) output)
         → HasTurned result engine.new.fault start until from first (course_of engine.new.course) (caches_of engine.new) (C.state cells.new) (shown_state (registers_of arch.new) memory.new (C.state cells.new) output) }

@@ -11,9 +11,10 @@ ghost use Rattle.vx_pipe.specs.Left.{registers_of};
 ghost use Rattle.vx_pipe.specs.Playing.{shown_state};
 ghost use Rattle.vx_pipe.specs.Turning.{HasTurned, IsTimely, caches_of, course_of, is_refused, machine_of};
 
+use crate::ending::TRAP_CYCLES;
 use crate::engine::Engine;
 use crate::laws::refused_instructions_fault;
-use crate::retire::{TRAP_CYCLES, issue};
+use crate::retire::issue;
 use crate::turn::Turn;
 use vx_cells::Cells;
 use vx_hart::{Arch, Progress};

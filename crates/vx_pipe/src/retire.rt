@@ -16,15 +16,12 @@ ghost use Rattle.vx_pipe.specs.Turning.{HasTurned, IsTimely, caches_of, course_o
 ghost use Rattle.vx_tables.specs.Walking.{HaveTables};
 
 use crate::course::Course;
+use crate::ending::end_behind;
 use crate::engine::Engine;
-use crate::fetches::fetch_behind;
 use crate::laws::retiring_instructions_go_on;
 use crate::turn::Turn;
 use vx_cells::Cells;
 use vx_paged::walks_leave_pages;
-
-/// The cycles from the end of an episode to the system.
-pub(crate) const TRAP_CYCLES: u64 = 20;
 
 /// The cycle at which an instruction is issued, of those at which its fetch ended and the one before it retired.
 #[inline(always)]
@@ -35,29 +32,19 @@ pub(crate) fn issue(fetched: u64, retired: u64) -> u64
     u64::max(fetched, retired + 1)
 }
 
-/// The course behind an instruction that retires.
+/// Counts an instruction that retires.
 #[inline(always)]
-fn retired(
-    course: Course,
-    issued: u64,
-    completed: u64,
-    commits: u64,
-    jumps: bool,
-    changes: bool,
-) -> Course
+fn count(course: &mut Course, issued: u64, completed: u64, commits: u64, jumps: bool, changes: bool)
     requires issued { issued ≤ 2 ^ 60 }
     requires completed { completed ≤ 2 ^ 60 }
-    requires commits { course.commits + commits + 1 < 2 ^ 63 }
-    requires count { course.completed < 2 ^ 62 }
-    ensures { course_of result ≡ retired_course (course_of course) issued completed commits jumps changes }
+    requires commits { course.old.completed + course.old.reached + commits + 1 < 2 ^ 63 }
+    ensures { course_of course.new ≡ retired_course (course_of course.old) issued completed commits jumps changes }
 {
-    Course {
-        retired: completed + 1,
-        begun: issued + if jumps { 2 } else { 1 },
-        commits: course.commits + commits + 1,
-        completed: course.completed + 1,
-        changed: course.changed | changes,
-    }
+    course.retired = completed + 1;
+    course.begun = issued + if jumps { 2 } else { 1 };
+    course.completed += 1;
+    course.reached += commits;
+    course.changed |= changes;
 }
 
 /// An instruction retires that was issued and completes at these cycles, and committed so often before: the episode goes on, or its
@@ -78,8 +65,7 @@ pub(crate) fn retire<C: Cells>(
     requires tables { HaveTables (C.state cells.old) root }
     requires order { issued ≤ completed }
     requires completed { completed ≤ 2 ^ 60 }
-    requires commits { engine.old.course.commits + commits + 1 < 2 ^ 63 }
-    requires count { engine.old.course.completed < 2 ^ 62 }
+    requires commits { engine.old.course.completed + engine.old.course.reached + commits + 1 < 2 ^ 63 }
     ensures turned { (start : Start) (from : Process) (first : CellsState) (u : Flat) → start.machine.window ≡ 1 → start.root ≡ root → start.machine.bank_time ≡ engine.old.bank_time
         → IsRetiring start until from first (course_of engine.old.course) issued completed commits jumps changes (caches_of engine.old) (C.state cells.old) u → u.pc ≡ pc
         → HasTurned result engine.new.fault start until from first (course_of engine.new.course) (caches_of engine.new) (C.state cells.new) u }
@@ -95,20 +81,17 @@ pub(crate) fn retire<C: Cells>(
 {
     retiring_instructions_go_on();
     walks_leave_pages();
-    engine.course = retired(engine.course, issued, completed, commits, jumps, changes);
+    count(
+        &mut engine.course,
+        issued,
+        completed,
+        commits,
+        jumps,
+        changes,
+    );
     if completed + 1 < until {
         return Turn::Goes;
     }
-    let bank_time = u64::from(engine.bank_time);
     let begun = engine.course.begun;
-    fetch_behind(
-        &mut engine.fetches,
-        cells,
-        root,
-        bank_time,
-        pc,
-        begun,
-        completed + 1,
-    );
-    Turn::Slice(completed + 1 + TRAP_CYCLES)
+    Turn::Slice(end_behind(engine, cells, root, pc, begun, completed + 1))
 }

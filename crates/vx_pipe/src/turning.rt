@@ -10,8 +10,9 @@ ghost use Rattle.vx_pipe.specs.Left.{registers_of};
 ghost use Rattle.vx_pipe.specs.Playing.{shown_state};
 ghost use Rattle.vx_pipe.specs.Turning.{HasTurned, IsIssued, IsTimely, IsTurning, caches_of, course_of, machine_of};
 
-use crate::accesses::access;
+use crate::accesses::{do_load, do_store};
 use crate::arithmetic::calculate;
+use crate::effects::do_effect;
 use crate::engine::Engine;
 use crate::fetches::fetch_next;
 use crate::moving::move_by;
@@ -36,11 +37,11 @@ fn do_issued<C: Cells>(
     until: u64,
     fetched: u64,
     word: u32,
-    known: Known,
+    known: &Known,
 ) -> Turn
-    requires valid { IsValid known.instr }
+    requires valid { IsValid known.now.instr }
     requires until { until ≤ 2 ^ 42 }
-    requires issued { IsIssued (machine_of engine.old) root until memory.old (course_of engine.old.course) fetched (caches_of engine.old) (C.state cells.old) (registers_of arch.old) word known.instr }
+    requires issued { IsIssued (machine_of engine.old) root until memory.old (course_of engine.old.course) fetched (caches_of engine.old) (C.state cells.old) (registers_of arch.old) word known.now.instr }
     ensures turned { (start : Start) (from : Process) (first : CellsState) (output : List ℕ) → IsEpisodeOn (machine_of engine.old) root memory.old start
         → IsIssuing start until from first (course_of engine.old.course) fetched (caches_of engine.old) (C.state cells.old) (shown_state (registers_of arch.old) memory.old (C.state cells.old) output)
         → HasTurned result engine.new.fault start until from first (course_of engine.new.course) (caches_of engine.new) (C.state cells.new) (shown_state (registers_of arch.new) memory.new (C.state cells.new) output) }
@@ -49,11 +50,99 @@ fn do_issued<C: Cells>(
     ensures memory { memory.new ≡ memory.old }
 {
     match known.class {
-        Class::Load => access(
-            engine, cells, arch, memory, root, until, fetched, word, known,
+        Class::Arithmetic => do_effect(
+            engine,
+            cells,
+            arch,
+            memory,
+            root,
+            until,
+            fetched,
+            word,
+            Class::Arithmetic,
+            &known.instr,
         ),
-        Class::Store => access(
-            engine, cells, arch, memory, root, until, fetched, word, known,
+        Class::Multiply => do_effect(
+            engine,
+            cells,
+            arch,
+            memory,
+            root,
+            until,
+            fetched,
+            word,
+            Class::Multiply,
+            &known.instr,
+        ),
+        Class::Divide => do_effect(
+            engine,
+            cells,
+            arch,
+            memory,
+            root,
+            until,
+            fetched,
+            word,
+            Class::Divide,
+            &known.instr,
+        ),
+        Class::Jump => do_effect(
+            engine,
+            cells,
+            arch,
+            memory,
+            root,
+            until,
+            fetched,
+            word,
+            Class::Jump,
+            &known.instr,
+        ),
+        Class::Branch => do_effect(
+            engine,
+            cells,
+            arch,
+            memory,
+            root,
+            until,
+            fetched,
+            word,
+            Class::Branch,
+            &known.instr,
+        ),
+        Class::Fence => do_effect(
+            engine,
+            cells,
+            arch,
+            memory,
+            root,
+            until,
+            fetched,
+            word,
+            Class::Fence,
+            &known.instr,
+        ),
+        Class::Load => do_load(
+            engine,
+            cells,
+            arch,
+            memory,
+            root,
+            until,
+            fetched,
+            word,
+            &known.instr,
+        ),
+        Class::Store => do_store(
+            engine,
+            cells,
+            arch,
+            memory,
+            root,
+            until,
+            fetched,
+            word,
+            &known.instr,
         ),
         Class::VectorArithmetic(family) => calculate(
             engine, cells, arch, memory, root, until, fetched, word, known, family,
@@ -120,7 +209,7 @@ fn turn<C: Cells>(
         Found::Denied => refuse(engine, cells, arch, memory, root, until, fetched),
         Found::Unknown(_) => refuse(engine, cells, arch, memory, root, until, fetched),
         Found::Known(word, known) => do_issued(
-            engine, cells, arch, memory, root, until, fetched, word, known,
+            engine, cells, arch, memory, root, until, fetched, word, &known,
         ),
     }
 }

@@ -39,7 +39,7 @@ pub record IsBehind (s t : SystemState) (d : CellsState) (ended : Ended) (counts
   pub settings : t.settings ≡ s.settings
   pub placement : t.placement ≡ s.placement
   pub output : t.output ≡ s.output
-  pub count : t.count ≡ s.count + counts.completed
+  pub count : t.count ≡ s.count + counts.retired
   pub over : t.over ≡ end_of ended
   pub cycles : t.cycles ≡ s.cycles + (d.cycle - s.clock)
   pub clock : t.clock ≡ d.cycle
@@ -49,7 +49,7 @@ pub record IsBehind (s t : SystemState) (d : CellsState) (ended : Ended) (counts
 -- the numbers are small
 pub record AreSmall (s : SystemState) (c d : CellsState) (counts : Counts) : Type 0 where
   pub count : s.count ≤ s.clock
-  pub later : c.cycle + counts.completed < d.cycle
+  pub later : c.cycle + counts.retired < d.cycle
   pub bounded : d.cycle ≤ 2 ^ 43
 
 -- it is shown
@@ -77,12 +77,12 @@ HasPlayed-from law s t c d until ended counts m running small plays behind h =
     let At : ℕ → Type 0 = λ n. episode (record { machine = s.settings.organisation; cycle = n; residency = m.residency; root = 0; has_vectors = true }) until p ≡ Some e in
     let is : episode (start_of s.settings m) until p ≡ Some e = subst At cycle here.plays.is in
     let clock : d.cycle ≡ e.clock = here.plays.cycle in
-    let completed : counts.completed ≡ e.completed = here.plays.completed_are in
+    let completed : counts.retired ≡ e.completed = here.plays.completed_are in
     let sclock : s.clock ≡ m.clock = h.clock in
     let scount : s.count ≡ p.count = h.count in
     let few : p.count + e.completed < 2 ^ 64 - 1 = omega (arith, small.count, small.later, small.bounded, h.cycle, completed, scount) in
-    let little : p.count + counts.completed < 2 ^ 64 = omega (arith, few, completed) in
-    let counted : e.process.count ≡ p.count + counts.completed = come.counted little in
+    let little : p.count + counts.retired < 2 ^ 64 = omega (arith, few, completed) in
+    let counted : e.process.count ≡ p.count + counts.retired = come.counted little in
     let Placed : List FramedPage → Type 0 = λ l. IsPlacedAs l e.residency in
     record {
       result = e;
@@ -100,7 +100,7 @@ HasPlayed-from law s t c d until ended counts m running small plays behind h =
           formed = come.formed;
           whole = left.whole;
           output = behind.output ∙ h.output ∙ sym left.output;
-          count = behind.count ∙ ap (λ (n : ℕ). n + counts.completed) scount ∙ sym counted;
+          count = behind.count ∙ ap (λ (n : ℕ). n + counts.retired) scount ∙ sym counted;
           over = behind.over ∙ sym come.over;
           cycles = behind.cycles ∙ (λ j. h.cycles j + (clock j - sclock j));
           clock = omega (arith, behind.clock, clock, sclock, h.cycle, small.later);

@@ -224,7 +224,7 @@ impl System {
             .episode(cells, &mut self.arch, &mut self.memory, 0, until);
         let counts = self.pipe.counts();
         let clock = cells.now();
-        self.count += counts.completed;
+        self.count += counts.retired;
         self.clock = clock;
         self.cycles += clock - start;
         self.over = end_of(ended);

@@ -9,7 +9,7 @@ use Rattle.vx_hart.proofs.executor.Executor.advance_by.Goals as goal
 
 pub returns-in_default-clause-performed : goal.returns-in_default-clause-performed
 returns-in_default-clause-performed g c output =
-    let known = c.args.known in
+    let known = c.args.known.now in
     let s : Flat = flat_of c.args.arch.now (g.M.Memory.state c.args.memory.now c.args.physical.now) output in
     let left : Flat = flat_of c.perform.new.arch (g.M.Memory.state c.perform.new.memory c.perform.new.physical) output in
     let illegal : (is_legal_as known.class s known.instr) ≡ false = sym (c.in_default.ensures.legal output) in
@@ -21,7 +21,7 @@ returns-in_default-clause-performed g c output =
 
 pub returns-clause-performed : goal.returns-clause-performed
 returns-clause-performed g c output =
-    let known = c.args.known in
+    let known = c.args.known.now in
     let s : Flat = flat_of c.args.arch.now (g.M.Memory.state c.args.memory.now c.args.physical.now) output in
     let legal : (is_legal_as known.class s known.instr) ≡ true = sym (c.in-Some.ensures.legal output) in
     c.in-Some.ensures.performed output

@@ -1,4 +1,4 @@
-use Rattle.std.proofs.Common.{List, refl, sym, ap, subst, ◌∙◌, arith}
+use Rattle.std.proofs.Common.{◌+◌, List, refl, sym, ap, subst, ◌∙◌, arith}
 use Rattle.vx_cells.specs.Cells.{CellsState}
 use Rattle.vx_episode.specs.Played.{Plays}
 use Rattle.vx_paged.specs.Framed.{IsPlacement}
@@ -61,9 +61,9 @@ returns-clause-plays g c residency process shows placed playable =
     subst (λ (p : List FramedPage). IsEpisodeOn (machine_of c.begin.new.engine) c.args.root p (start_at c.args.self.now.machine cells.cycle c.args.root residency)) (sym c.run-over.ensures.memory) on in
     let kept : IsPlacement c.run-over.new.memory = subst (λ (p : List FramedPage). IsPlacement p) (sym c.run-over.ensures.memory) c.pages-pages.ensures.kept in
     let plays : Plays (start_at c.args.self.now.machine cells.cycle c.args.root residency) c.args.until process cells (g.C.Cells.state c.advance.new.self) (registers_of c.run-over.new.arch) c.run-over.result.ended
-    c.run-over.new.engine.course.commits c.run-over.new.engine.course.completed c.run-over.new.engine.course.changed =
+    (c.run-over.new.engine.course.completed + c.run-over.new.engine.course.reached) c.run-over.new.engine.course.completed c.run-over.new.engine.course.changed =
     subst (λ (x : CellsState). Plays (start_at c.args.self.now.machine cells.cycle c.args.root residency) c.args.until process cells x (registers_of c.run-over.new.arch) c.run-over.result.ended
-    c.run-over.new.engine.course.commits c.run-over.new.engine.course.completed c.run-over.new.engine.course.changed) (sym c.advance.ensures)
+    (c.run-over.new.engine.course.completed + c.run-over.new.engine.course.reached) c.run-over.new.engine.course.completed c.run-over.new.engine.course.changed) (sym c.advance.ensures)
     (c.episodes_are_played.ensures.plays (machine_of c.begin.new.engine) c.args.root c.args.until c.run-over.new.memory (start_at c.args.self.now.machine cells.cycle c.args.root residency) process cells behind (registers_of c.run-over.new.arch)
     c.run-over.result.ended c.run-over.result.clock (course_of c.run-over.new.engine.course) process.state.output here kept over) in
     plays-placed (machine_of c.begin.new.engine) c.args.root c.args.until c.run-over.new.memory (start_at c.args.self.now.machine cells.cycle c.args.root residency) process cells behind (g.C.Cells.state c.advance.new.self)
