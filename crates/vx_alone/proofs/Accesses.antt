@@ -1,10 +1,10 @@
 -- What an access finds in the memory that entries and bytes stand for.
-use Rattle.std.proofs.Common.{◌≡◌, ℕ, zero, suc, ◌+◌, ◌-◌, ◌*◌, ◌/◌, ◌%◌, ◌^◌, ◌<◌, ◌≤◌, Bool, true, false, ◌&&◌, leb, List, [], ◌∷◌, ◌++◌, length, get_or, take, drop, set, refl, sym, ap, subst, ◌∙◌, add_assoc, zero-add, add-zero, IsTrue, take-append-drop, arith}
+use Rattle.std.proofs.Common.{◌≡◌, ℕ, zero, suc, ◌+◌, ◌-◌, ◌*◌, ◌/◌, ◌%◌, ◌^◌, ◌<◌, ◌≤◌, Bool, true, false, ◌&&◌, leb, List, [], ◌∷◌, ◌++◌, length, get_or, take, drop, set, refl, sym, ap, subst, ◌∙◌, zero-add, add-zero, IsTrue, take-append-drop, arith}
 use Rattle.std.proofs.Math.Bool.{and-false, and_assoc}
 use Rattle.std.proofs.Math.Nat.{mod-eq_of_lt, suc-add}
 use Rattle.std.proofs.Math.Seq.{drop-cons}
 use Rattle.std.proofs.lemmas.Bool.{false≢true, leb-true}
-use Rattle.std.proofs.lemmas.List.{drop_more, length-set}
+use Rattle.std.proofs.lemmas.List.{length-set}
 use Rattle.std.proofs.lemmas.Nat.{div-mul-add, mod-mul-add, shr-shr}
 use Rattle.vx_base.specs.Permissions.{grants}
 use Rattle.vx_base.specs.declared.machine.Want.{Want}
@@ -115,24 +115,6 @@ module _ (entries : List PageEntry) (rising : IsRising entries) (page k : ℕ) (
 -- an access whose address is a multiple of its width ends on its page, and below the last address
 pub ends_on_page : (width address : ℕ) → IsTrue (is_access_width width) → address % width ≡ 0 → address < 2 ^ 64 → (address % 4096 + width ≤ 4096) × (address + width ≤ 2 ^ 64)
 ends_on_page width address is aligned below = grind (arith, is, aligned, below)
-
--- four bytes of a list, one by one
-take_four : (bytes : List ℕ) (i : ℕ) → i + 4 ≤ length bytes → take 4 (drop i bytes) ≡ get_or bytes i 0 ∷ get_or bytes (i + 1) 0 ∷ get_or bytes (i + 2) 0 ∷ get_or bytes (i + 3) 0 ∷ []
-take_four bytes i long =
-    let e0 : drop i bytes ≡ get_or bytes i 0 ∷ drop (i + 1) bytes = drop_more bytes i 0 (omega arith) in
-    let e1 : drop (i + 1) bytes ≡ get_or bytes (i + 1) 0 ∷ drop (i + 2) bytes = rw add_assoc at (drop_more bytes (i + 1) 0 (omega arith)) in
-    let e2 : drop (i + 2) bytes ≡ get_or bytes (i + 2) 0 ∷ drop (i + 3) bytes = rw add_assoc at (drop_more bytes (i + 2) 0 (omega arith)) in
-    let e3 : drop (i + 3) bytes ≡ get_or bytes (i + 3) 0 ∷ drop (i + 4) bytes = rw add_assoc at (drop_more bytes (i + 3) 0 (omega arith)) in
-    rw (e0, e1, e2, e3) refl
-
--- the four bytes at an address that is a multiple of 4
-pub word_there : (entries : List PageEntry) → IsRising entries → (bytes : List ℕ) (address k : ℕ) → IsPlaceOf entries (page_of address) k → address % 4 ≡ 0 → address < 2 ^ 64 → length bytes ≡ 4096 * length entries → (i : ℕ) → i ≡ 4096 * k + address % 4096 → bytes_at (pages_of entries bytes) address 4 ≡ get_or bytes i 0 ∷ get_or bytes (i + 1) 0 ∷ get_or bytes (i + 2) 0 ∷ get_or bytes (i + 3) 0 ∷ []
-word_there entries rising bytes address k place aligned below whole i same =
-    let within = place.within in
-    let room : address % 4096 + 4 ≤ 4096 = omega arith in
-    rw same
-    (bytes_on_page entries rising bytes (page_of address) k place 4 (address % 4096) address (omega arith) room (omega arith) (omega arith)
-    ∙ take_four bytes (4096 * k + address % 4096) (omega arith))
 
 -- a test that isn't false is true
 not_false : (b : Bool) → (b ≡ false → ⊥) → b ≡ true

@@ -2,3 +2,4 @@ pub mod Accesses
 pub mod Calls
 pub mod Numbers
 pub mod Pages
+pub mod Steps

@@ -1,41 +1,8 @@
 -- Numbers and their bytes, least first.
-use Rattle.std.proofs.Common.{◌≡◌, ℕ, zero, suc, ◌+◌, ◌*◌, ◌/◌, ◌%◌, ◌<◌, ◌≤◌, List, [], ◌∷◌, ◌++◌, length, get_or, take, drop, set, replicate, refl, sym, ap, ◌∙◌, arith}
-use Rattle.std.proofs.lemmas.List.{take_more_set, drop-set-lt}
-use Rattle.std.proofs.Common.{append_assoc}
-use Rattle.std.specs.Int.{from_le_bytes, to_le_bytes, w32, w64}
-use Rattle.vx_base.specs.Numbers.{from_little_endian, little_endian}
-
--- a list of eight, one by one
-eight : (xs : List ℕ) → length xs ≡ 8 → xs ≡ get_or xs 0 0 ∷ get_or xs 1 0 ∷ get_or xs 2 0 ∷ get_or xs 3 0 ∷ get_or xs 4 0 ∷ get_or xs 5 0 ∷ get_or xs 6 0 ∷ get_or xs 7 0 ∷ []
-eight (a ∷ b ∷ c ∷ d ∷ e ∷ f ∷ g ∷ h ∷ []) long = refl
-eight other long = absurd (omega (arith, long))
-
--- eight bytes are read as the number that they are
-pub from_eight : (xs : List ℕ) → length xs ≡ 8 → from_le_bytes w64 xs ≡ from_little_endian xs
-from_eight xs long =
-    let same = ap from_little_endian (eight xs long) in
-    let sum : from_le_bytes w64 xs ≡ from_little_endian (get_or xs 0 0 ∷ get_or xs 1 0 ∷ get_or xs 2 0 ∷ get_or xs 3 0 ∷ get_or xs 4 0 ∷ get_or xs 5 0 ∷ get_or xs 6 0 ∷ get_or xs 7 0 ∷ []) = omega arith in
-    sum ∙ sym same
-
--- and four
-four : (xs : List ℕ) → length xs ≡ 4 → xs ≡ get_or xs 0 0 ∷ get_or xs 1 0 ∷ get_or xs 2 0 ∷ get_or xs 3 0 ∷ []
-four (a ∷ b ∷ c ∷ d ∷ []) long = refl
-four other long = absurd (omega (arith, long))
-
-pub from_four : (xs : List ℕ) → length xs ≡ 4 → from_le_bytes w32 xs ≡ from_little_endian xs
-from_four xs long =
-    let same = ap from_little_endian (four xs long) in
-    let sum : from_le_bytes w32 xs ≡ from_little_endian (get_or xs 0 0 ∷ get_or xs 1 0 ∷ get_or xs 2 0 ∷ get_or xs 3 0 ∷ []) = omega arith in
-    sum ∙ sym same
-
--- zeros behind a number's bytes add nothing
-from_zeros : (n : ℕ) → from_little_endian (replicate n 0) ≡ 0
-from_zeros zero = refl
-from_zeros (suc n) = ap (λ (k : ℕ). 0 + 256 * k) (from_zeros n)
-
-pub from_padded : (xs : List ℕ) (n : ℕ) → from_little_endian (xs ++ replicate n 0) ≡ from_little_endian xs
-from_padded [] n = from_zeros n
-from_padded (x ∷ xs) n = ap (λ (k : ℕ). x + 256 * k) (from_padded xs n)
+use Rattle.std.proofs.Common.{◌≡◌, ℕ, zero, suc, ◌+◌, ◌/◌, ◌%◌, ◌<◌, ◌≤◌, List, [], ◌∷◌, ◌++◌, length, take, drop, set, refl, sym, ap, ◌∙◌, append_assoc, take-append-drop, add-zero, arith}
+use Rattle.std.proofs.lemmas.List.{length-set, take_more_set, drop-set-lt}
+use Rattle.std.specs.Int.{to_le_bytes, w64}
+use Rattle.vx_base.specs.Numbers.{little_endian}
 
 -- the first bytes of more of a number's bytes
 take-little_endian : (n k value : ℕ) → n ≤ k → take n (little_endian k value) ≡ little_endian n value
@@ -67,3 +34,22 @@ put_next bytes values value i within =
     let behind : i + 1 + length values ≡ i + suc (length values) = omega arith in
     rw (take_more_set bytes i value within, drop-set-lt (i + 1 + length values) bytes i value (omega arith), behind)
     (append_assoc (take i bytes) (value ∷ []) (values ++ drop (i + suc (length values)) bytes))
+
+-- values put at indices from i + j on, one by one
+abbrev pub put_all : (values bytes : List ℕ) (i j : ℕ) → List ℕ
+put_all [] bytes i j = bytes
+put_all (value ∷ values) bytes i j = put_all values (set bytes (i + j) value) i (suc j)
+
+puts-on : (values bytes : List ℕ) (i j : ℕ) → i + j + length values ≤ length bytes → put_all values bytes i j ≡ take (i + j) bytes ++ (values ++ drop (i + j + length values) bytes)
+puts-on [] bytes i j fits =
+    sym (take-append-drop (i + j) bytes) ∙ ap (λ (n : ℕ). take (i + j) bytes ++ drop n bytes) (sym (add-zero (i + j)))
+puts-on (value ∷ values) bytes i j fits =
+    let next : i + suc j ≡ i + j + 1 = omega arith in
+    puts-on values (set bytes (i + j) value) i (suc j) (omega (arith, fits, length-set bytes (i + j) value))
+    ∙ ap (λ (n : ℕ). take n (set bytes (i + j) value) ++ (values ++ drop (n + length values) (set bytes (i + j) value))) next
+    ∙ put_next bytes values value (i + j) (omega (arith, fits))
+
+pub puts : (value : ℕ) (values bytes : List ℕ) (i : ℕ) → i + suc (length values) ≤ length bytes → put_all values (set bytes i value) i 1 ≡ take i bytes ++ ((value ∷ values) ++ drop (i + suc (length values)) bytes)
+puts value values bytes i fits =
+    puts-on values (set bytes i value) i 1 (omega (arith, fits, length-set bytes i value))
+    ∙ put_next bytes values value i (omega (arith, fits))

@@ -1,3 +1,4 @@
+pub mod Advances
 pub mod Granted
 pub mod Settled
 pub mod Turns

@@ -1,23 +1,14 @@
--- A process after what became of its instruction, or of its service. This project's own.
+-- A process by its parts, and after its service. This project's own.
 use Rattle.std.specs.Prelude.{ℕ, ℤ, Option, Some, None}
 use Rattle.vx_base.specs.Faults.{one_more}
-use Rattle.vx_base.specs.declared.machine.Fault.{Fault}
 use Rattle.vx_flat.specs.Process.{Process}
 use Rattle.vx_flat.specs.State.{Flat}
 use Rattle.vx_flat.specs.declared.end.End.{End}
 use Rattle.vx_flat.specs.declared.end.End.TheVariants as end
-use Rattle.vx_hart.specs.declared.progress.Progress.{Progress}
-use Rattle.vx_hart.specs.declared.progress.Progress.TheVariants.{Completed, Asks, Faulted}
 
 -- the process in a state that has completed so many instructions, and how it ended
 abbrev pub process_of : Flat → (count : ℕ) → Option End → Process
 process_of s count over = record { state = s; count = count; over = over }
-
--- the process whose instruction left this state and this fault, with its count and its end
-abbrev pub settled : Progress → Fault → Process → Process
-settled Completed fault p = record p { count = one_more p.count }
-settled Asks fault p = p
-settled Faulted fault p = record p { over = Some (end.Faulted fault) }
 
 -- the process whose service left this state, with its count, and its end where it exited with a code
 abbrev pub settled_service : Option ℤ → Process → Process

@@ -1,18 +1,19 @@
-ghost use Rattle.std.specs.Prelude.{◌≡◌, ◌≤◌, ◌^◌, length, true, false, None, IfOk, IsTrue};
-ghost use Rattle.vx_alone.specs.Settled.{process_of, settled, settled_service};
+ghost use Rattle.std.specs.Prelude.{◌≡◌, ◌<◌, ◌≤◌, ◌^◌, ℕ, List, length, true, None, IfOk, IsTrue};
+ghost use Rattle.vx_alone.specs.Advances.{Advances};
+ghost use Rattle.vx_alone.specs.Settled.{process_of, settled_service};
 ghost use Rattle.vx_alone.specs.Turns.{turn_of};
 ghost use Rattle.vx_base.specs.Options.{is_register_length};
 ghost use Rattle.vx_flat.specs.Process.{begun, stepped};
-ghost use Rattle.vx_flat.specs.State.{Flat};
 ghost use Rattle.vx_flat.specs.Step.{upcoming};
 ghost use Rattle.vx_hart.specs.Asking.{is_service};
+ghost use Rattle.vx_hart.specs.Outcomes.{flat_of};
 
 use crate::memory::Memory;
 use crate::turn::Turn;
 use std::alloc::{AllocError, Global};
 use std::marker::Model;
 use vx_flat::{End, Hart};
-use vx_hart::{Arch, Executor, Progress, asks, serve};
+use vx_hart::{Arch, Executor, Progress, serve};
 use vx_image::Image;
 use vx_scalar::Regs;
 use vx_vstate::VState;
@@ -80,25 +81,23 @@ impl Alone {
         })
     }
 
-    /// Does what stands at the pc, in a machine that isn't over, unless it asks for a service: `serve` does that. Tells whether
-    /// it asks.
+    /// Takes steps, up to `most`, as long as the process goes on and asks for no service: `serve` does that. Tells whether it
+    /// asks.
     #[inline(never)]
-    pub fn advance(&mut self) -> bool
-        requires running { self.old.over ≡ None }
-        ensures asks { result ≡ is_service (upcoming self.old.state) }
-        ensures waits { result ≡ true → self.new ≡ self.old }
-        ensures stepped { result ≡ false → self.new ≡ stepped self.old }
+    pub fn advance(&mut self, most: u64) -> bool
+        ensures { Advances most self.old self.new result }
     {
-        let step = self
-            .executor
-            .advance(&mut self.arch, &mut self.memory, &mut ());
-        settle(
+        if self.over.is_some() {
+            return false;
+        }
+        advance_on(
+            &mut self.executor,
+            &mut self.arch,
+            &mut self.memory,
             &mut self.count,
             &mut self.over,
-            &self.executor,
-            step.progress,
-        );
-        asks(step.class)
+            most,
+        )
     }
 
     /// Does the service that what stands at the pc asks for.
@@ -123,12 +122,11 @@ impl Alone {
         }
     }
 
-    /// The flat step of a machine that isn't over.
+    /// The flat step.
     fn go(&mut self)
-        requires running { self.old.over ≡ None }
-        ensures stepped { self.new ≡ stepped self.old }
+        ensures { self.new ≡ stepped self.old }
     {
-        if self.advance() {
+        if self.advance(1) {
             self.serve();
         }
     }
@@ -138,10 +136,7 @@ impl Alone {
         ensures stepped { self.new ≡ stepped self.old }
         ensures turn { result ≡ turn_of self.new.over }
     {
-        if self.over.is_none() {
-            self.go();
-            return self.turn();
-        }
+        self.go();
         self.turn()
     }
 
@@ -188,13 +183,40 @@ impl Alone {
     }
 }
 
-/// Takes what became of an instruction into the count of its process, or into its end.
-fn settle(count: &mut u64, over: &mut Option<End>, executor: &Executor, progress: Progress)
-    ensures { (s : Flat) → process_of s count.new over.new ≡ settled progress executor.now (process_of s count.old over.old) }
+/// Takes steps of a process that isn't over, likewise. What they completed is counted at their end.
+fn advance_on(
+    executor: &mut Executor,
+    arch: &mut Arch,
+    memory: &mut Memory,
+    count: &mut u64,
+    over: &mut Option<End>,
+    most: u64,
+) -> bool
+    requires running { over.old ≡ None }
+    ensures { (output : List ℕ) → Advances most (process_of (flat_of arch.old memory.old output) count.old over.old)
+        (process_of (flat_of arch.new memory.new output) count.new over.new) result }
 {
-    match progress {
-        Progress::Completed => *count = count.saturating_add(1),
-        Progress::Asks => {}
-        Progress::Faulted => *over = Some(End::Faulted(executor.fault())),
+    has_64_bits(*count);
+    let mut done = 0;
+    while done < most {
+        match executor.advance(arch, memory, &mut ()).progress {
+            Progress::Completed => done += 1,
+            Progress::Asks => {
+                *count = count.saturating_add(done);
+                return true;
+            }
+            Progress::Faulted => {
+                *count = count.saturating_add(done);
+                *over = Some(End::Faulted(executor.fault()));
+                return false;
+            }
+        }
     }
+    *count = count.saturating_add(most);
+    false
 }
+
+/// That a count is a number of 64 bits, for a proof.
+fn has_64_bits(count: u64)
+    ensures { count < 2 ^ 64 }
+{}

@@ -211,19 +211,43 @@ fn index_of(place: usize, address: u64) -> usize
     PAGE_LEN * place + (address % PAGE_BYTES) as usize
 }
 
-/// The word that four bytes from an index on are, least first. They are read at once.
+/// The word that four bytes from an index on are, least first. LLVM reads them at once.
 #[inline(always)]
 fn word_at(bytes: &[u8], at: usize) -> u32
     requires within { at + 4 ≤ length bytes.now }
     ensures { result ≡ from_little_endian (take 4 (drop at bytes.now)) }
 {
-    let mut word = [0; 4];
-    word.copy_from_slice(&bytes[at..at + 4]);
-    u32::from_le_bytes(word)
+    u32::from_le_bytes([bytes[at], bytes[at + 1], bytes[at + 2], bytes[at + 3]])
 }
 
-/// The number that so many bytes from an index on are, least first. Each width that an access may have stands as a literal,
-/// so that its bytes are read at once.
+/// The number that eight bytes from an index on are, least first.
+#[inline(always)]
+fn double_at(bytes: &[u8], at: usize) -> u64
+    requires within { at + 8 ≤ length bytes.now }
+    ensures { result ≡ from_little_endian (take 8 (drop at bytes.now)) }
+{
+    u64::from_le_bytes([
+        bytes[at],
+        bytes[at + 1],
+        bytes[at + 2],
+        bytes[at + 3],
+        bytes[at + 4],
+        bytes[at + 5],
+        bytes[at + 6],
+        bytes[at + 7],
+    ])
+}
+
+/// The number that two bytes from an index on are, least first.
+#[inline(always)]
+fn half_at(bytes: &[u8], at: usize) -> u16
+    requires within { at + 2 ≤ length bytes.now }
+    ensures { result ≡ from_little_endian (take 2 (drop at bytes.now)) }
+{
+    u16::from_le_bytes([bytes[at], bytes[at + 1]])
+}
+
+/// The number that so many bytes from an index on are, least first.
 #[inline(always)]
 fn number_of_width(bytes: &[u8], at: usize, width: u64) -> u64
     requires width { IsTrue (is_access_width width) }
@@ -231,15 +255,15 @@ fn number_of_width(bytes: &[u8], at: usize, width: u64) -> u64
     ensures { result ≡ from_little_endian (take width (drop at bytes.now)) }
 {
     match width {
-        1 => number_at(bytes, at, 1),
-        2 => number_at(bytes, at, 2),
-        4 => number_at(bytes, at, 4),
-        8 => number_at(bytes, at, 8),
-        _ => number_at(bytes, at, width as usize),
+        1 => u64::from(bytes[at]),
+        2 => u64::from(half_at(bytes, at)),
+        4 => u64::from(word_at(bytes, at)),
+        _ => double_at(bytes, at),
     }
 }
 
-/// Puts the low bytes of a number from an index on, least first, likewise.
+/// Puts the low bytes of a number from an index on, least first. Each width that an access may have stands as a literal, so that
+/// LLVM writes its bytes at once.
 #[inline(always)]
 fn put_of_width(bytes: &mut [u8], at: usize, width: u64, value: u64)
     requires width { IsTrue (is_access_width width) }
@@ -247,34 +271,62 @@ fn put_of_width(bytes: &mut [u8], at: usize, width: u64, value: u64)
     ensures { bytes.new ≡ take at bytes.old ++ (little_endian width value ++ drop (at + width) bytes.old) }
 {
     match width {
-        1 => put_number(bytes, at, 1, value),
-        2 => put_number(bytes, at, 2, value),
-        4 => put_number(bytes, at, 4, value),
-        8 => put_number(bytes, at, 8, value),
-        _ => put_number(bytes, at, width as usize, value),
+        1 => put_byte(bytes, at, value),
+        2 => put_half(bytes, at, value),
+        4 => put_word(bytes, at, value),
+        _ => put_double(bytes, at, value),
     }
 }
 
-/// The number that so many bytes from an index on are, least first.
+/// Puts the low byte of a number at an index.
 #[inline(always)]
-fn number_at(bytes: &[u8], at: usize, width: usize) -> u64
-    requires width { width ≤ 8 }
-    requires within { at + width ≤ length bytes.now }
-    ensures { result ≡ from_little_endian (take width (drop at bytes.now)) }
+fn put_byte(bytes: &mut [u8], at: usize, value: u64)
+    requires within { at + 1 ≤ length bytes.old }
+    ensures { bytes.new ≡ take at bytes.old ++ (little_endian 1 value ++ drop (at + 1) bytes.old) }
 {
-    let mut number = [0; 8];
-    number[..width].copy_from_slice(&bytes[at..at + width]);
-    u64::from_le_bytes(number)
+    let value = value.to_le_bytes();
+    bytes[at] = value[0];
 }
 
-/// Puts the low bytes of a number from an index on, least first.
+/// Puts its two low bytes.
 #[inline(always)]
-fn put_number(bytes: &mut [u8], at: usize, width: usize, value: u64)
-    requires width { width ≤ 8 }
-    requires within { at + width ≤ length bytes.old }
-    ensures { bytes.new ≡ take at bytes.old ++ (little_endian width value ++ drop (at + width) bytes.old) }
+fn put_half(bytes: &mut [u8], at: usize, value: u64)
+    requires within { at + 2 ≤ length bytes.old }
+    ensures { bytes.new ≡ take at bytes.old ++ (little_endian 2 value ++ drop (at + 2) bytes.old) }
 {
-    bytes[at..at + width].copy_from_slice(&value.to_le_bytes()[..width]);
+    let value = value.to_le_bytes();
+    bytes[at] = value[0];
+    bytes[at + 1] = value[1];
+}
+
+/// Puts its four low bytes.
+#[inline(always)]
+fn put_word(bytes: &mut [u8], at: usize, value: u64)
+    requires within { at + 4 ≤ length bytes.old }
+    ensures { bytes.new ≡ take at bytes.old ++ (little_endian 4 value ++ drop (at + 4) bytes.old) }
+{
+    let value = value.to_le_bytes();
+    bytes[at] = value[0];
+    bytes[at + 1] = value[1];
+    bytes[at + 2] = value[2];
+    bytes[at + 3] = value[3];
+}
+
+/// Puts its eight bytes.
+#[inline(always)]
+fn put_double(bytes: &mut [u8], at: usize, value: u64)
+    requires within { at + 8 ≤ length bytes.old }
+    ensures { bytes.new ≡ take at bytes.old ++ (little_endian 8 value ++ drop (at + 8) bytes.old) }
+{
+    let value = value.to_le_bytes();
+    bytes[at] = value[0];
+    bytes[at + 1] = value[1];
+    bytes[at + 2] = value[2];
+    bytes[at + 3] = value[3];
+    bytes[at + 4] = value[4];
+    bytes[at + 5] = value[5];
+    bytes[at + 6] = value[6];
+    bytes[at + 7] = value[7];
 }
 
 /// The place of an address's page, where an access of this kind is let through, which then is the last of its kind.

@@ -1,3 +1,4 @@
+pub mod Advancing
 pub mod Booting
 pub mod Playing
 pub mod Rounds

@@ -1,7 +1,7 @@
 ghost use Rattle.std.specs.Prelude.{◌≡◌, ◌<◌, ◌^◌, ◌∷◌, [], IfOk, None};
 ghost use Rattle.vx_machine.specs.Accounts.{account_alone};
 ghost use Rattle.vx_machine.specs.Report.{report};
-ghost use Rattle.vx_system.specs.Solo.{RunsAlone};
+ghost use Rattle.vx_system.specs.Solo.{GoesOn, RunsAlone};
 
 use crate::report::{ProcessReport, report};
 use std::alloc::{AllocError, Global};
@@ -16,13 +16,24 @@ pub fn run_alone(process: &mut Alone, budget: u64) -> Stop
     requires budget { budget < 2 ^ 63 }
     ensures { RunsAlone budget process.old process.new result }
 {
-    for _ in 0..budget {
-        process.step();
+    while process.count() < budget {
+        go_on(process, budget - process.count());
         if process.over().is_some() {
             return Stop::Done;
         }
     }
     Stop::Spent
+}
+
+/// Takes steps, up to `most`: the last of them may be a service.
+fn go_on(process: &mut Alone, most: u64)
+    requires running { process.old.over ≡ None }
+    requires some { 0 < most }
+    ensures { GoesOn most process.old process.new }
+{
+    if process.advance(most) {
+        process.serve();
+    }
 }
 
 /// The report's bytes of a process alone that stopped so.
