@@ -1,12 +1,10 @@
-//! The proved tests of the public calls of the crates below: each call once on its happy path, and what no command shows, as
-//! failing shelves and sinks in memory. What the program shows stands in tests/cases instead.
+//! The proved tests of the public calls of the crates of numbers, files, images and instructions: each call once on its happy
+//! path, and what no command shows, as failing shelves and sinks in memory. What the program shows stands in tests/cases instead;
+//! vx_machine_tests has the tests of the machines and of the program's call.
 //!
-//! It stands on all libraries of this repository but the definitions, and gives nothing: since a crate with tests is proved
-//! twice, the crates below have none of their own.
+//! It gives nothing: since a crate with tests is proved twice, the crates below have none of their own.
 #![tactic(auto)]
 
-#[cfg(test)]
-mod alone;
 #[cfg(test)]
 mod base;
 #[cfg(test)]
@@ -20,10 +18,4 @@ mod elf;
 #[cfg(test)]
 mod image;
 #[cfg(test)]
-mod read;
-#[cfg(test)]
 mod scalar;
-#[cfg(test)]
-mod system;
-#[cfg(test)]
-mod top;
