@@ -12,6 +12,7 @@ use crate::memory::Memory;
 use crate::turn::Turn;
 use std::alloc::{AllocError, Global};
 use std::marker::Model;
+use vx_decode::KnownWords;
 use vx_flat::{End, Hart};
 use vx_hart::{Arch, Executor, Progress, serve};
 use vx_image::Image;
@@ -22,6 +23,7 @@ use vx_vstate::VState;
 #[derive(Debug, Drop)]
 pub struct Alone {
     arch: Arch,
+    words: KnownWords,
     executor: Executor,
     memory: Memory,
     output: Vec<u8>,
@@ -73,6 +75,7 @@ impl Alone {
         };
         Ok(Alone {
             arch,
+            words: KnownWords::new(alloc)?,
             executor: Executor::new(alloc)?,
             memory: Memory::of(alloc, image)?,
             output: Vec::with_capacity(alloc, 1 << 20)?,
@@ -91,6 +94,7 @@ impl Alone {
             return false;
         }
         advance_on(
+            &mut self.words,
             &mut self.executor,
             &mut self.arch,
             &mut self.memory,
@@ -185,6 +189,7 @@ impl Alone {
 
 /// Takes steps of a process that isn't over, likewise. What they completed is counted at their end.
 fn advance_on(
+    words: &mut KnownWords,
     executor: &mut Executor,
     arch: &mut Arch,
     memory: &mut Memory,
@@ -199,7 +204,7 @@ fn advance_on(
     has_64_bits(*count);
     let mut done = 0;
     while done < most {
-        match executor.advance(arch, memory, &mut ()).progress {
+        match executor.advance(words, arch, memory, &mut ()).progress {
             Progress::Completed => done += 1,
             Progress::Asks => {
                 *count = count.saturating_add(done);

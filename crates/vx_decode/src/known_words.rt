@@ -1,4 +1,5 @@
-ghost use Rattle.std.specs.Prelude.{◌≡◌, ◌<◌, vec_len};
+ghost use Rattle.std.specs.Prelude.{◌≡◌, ◌<◌, option_map, vec_len};
+ghost use Rattle.vx_decode.specs.Decoded.{decoded};
 ghost use Rattle.vx_decode.specs.Known.{Means};
 
 use crate::decoder::decode;
@@ -62,12 +63,12 @@ impl KnownWords {
 
     /// The instruction that a word means, as `decode` gives it, with its class. Decodes the word only where its place holds
     /// another.
-    pub fn lookup(&mut self, word: u32) -> Option<Known>
-        ensures { Means word result }
+    pub fn lookup(&mut self, word: u32) -> Option<&Known>
+        ensures { option_map (λ k. k.now.instr) result ≡ decoded word }
     {
         let entry = &mut self.entries[place_of(word)];
         entry.turn_to(word);
-        entry.known
+        entry.known.as_ref()
     }
 }
 

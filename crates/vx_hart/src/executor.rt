@@ -9,7 +9,6 @@ ghost use Rattle.vx_flat.specs.Vectors.{reading_at, setting_at};
 ghost use Rattle.vx_hart.specs.Asking.{asks, class_next, is_service, is_service_class};
 ghost use Rattle.vx_hart.specs.Effects.{is_effect_class};
 ghost use Rattle.vx_hart.specs.Directions.{direction_of};
-ghost use Rattle.vx_hart.specs.Found.{IsValidFound, next_of};
 ghost use Rattle.vx_hart.specs.Outcomes.{flat_of, outcome_as, outcome_next, outcome_of};
 ghost use Rattle.vx_hart.specs.Transfers.{Moves, transfer_with};
 ghost use Rattle.vx_hart.specs.declared.progress.Progress.TheVariants as progress;
@@ -26,15 +25,16 @@ use crate::arch::Arch;
 use crate::arithmetic::{calculate, calculate_legal, calculation};
 use crate::controls::{configure, control};
 use crate::direction::Direction;
+use crate::finding::{Found, find};
 use crate::kept::Kept;
 use crate::memory::Memory;
 use crate::movements::{load_vectors, movement, reach, store_vectors, transfer};
-use crate::progress::{Advance, Found, Progress};
+use crate::progress::{Advance, Progress};
 use crate::scalars::{affect, fault, load, store};
 use std::alloc::{AllocError, Global};
 use std::marker::Model;
 use vx_base::Fault;
-use vx_decode::{Instr, Known, KnownWords, decoded_is_valid};
+use vx_decode::{Instr, Known, KnownWords};
 use vx_exec::Calculator;
 use vx_rows::{Addressing, Class, Eew, Family};
 use vx_vaddr::AccessPattern;
@@ -44,7 +44,6 @@ use vx_vstate::Setting;
 /// made.
 #[derive(Debug, Drop)]
 pub struct Executor {
-    words: KnownWords,
     /// Room for the words of a vector instruction.
     calculator: Calculator,
     /// The vector registers as they were at the start of the last vector load.
@@ -65,7 +64,6 @@ impl Executor {
     /// The executor of a hart. It takes all the memory that it ever needs.
     pub fn new(alloc: Global) -> Result<Executor, AllocError> {
         Ok(Executor {
-            words: KnownWords::new(alloc)?,
             calculator: Calculator::new(alloc)?,
             kept: Kept::new(alloc)?,
             fault: Fault {
@@ -84,30 +82,10 @@ impl Executor {
         self.fault
     }
 
-    /// What stands at the pc. Whether it is legal isn't looked at.
-    #[inline(always)]
-    pub fn find<P, M: Memory<P>>(&mut self, arch: &Arch, memory: &mut M, physical: &mut P) -> Found
-        requires fits { M.fits memory.old physical.old }
-        ensures fits { M.fits memory.new physical.new }
-        ensures rest { M.rest memory.new physical.new ≡ M.rest memory.old physical.old }
-        ensures memory { M.state memory.new physical.new ≡ M.state memory.old physical.old }
-        ensures same { self.new ≡ self.old }
-        ensures valid { IsValidFound result }
-        ensures found { (output : List ℕ) → let s = flat_of arch.now (M.state memory.old physical.old) output in upcoming s ≡ next_of s result }
-    {
-        decoded_is_valid();
-        let Some(word) = memory.word(physical, arch.pc) else {
-            return Found::Denied;
-        };
-        let Some(known) = self.words.lookup(word) else {
-            return Found::Unknown(word);
-        };
-        Found::Known(word, known)
-    }
-
     /// Does what stands at the pc, unless it asks for a service.
     pub fn advance<P, M: Memory<P>>(
         &mut self,
+        words: &mut KnownWords,
         arch: &mut Arch,
         memory: &mut M,
         physical: &mut P,
@@ -120,7 +98,7 @@ impl Executor {
         ensures performed { (output : List ℕ) → let s = flat_of arch.old (M.state memory.old physical.old) output in
             outcome_of result.progress self.new (flat_of arch.new (M.state memory.new physical.new) output) ≡ outcome_next s (upcoming s) }
     {
-        match self.find(arch, memory, physical) {
+        match find(words, arch, memory, physical) {
             Found::Denied => Advance {
                 class: None,
                 progress: fault(arch, &mut self.fault, 12, arch.pc),
@@ -129,7 +107,7 @@ impl Executor {
                 class: None,
                 progress: fault(arch, &mut self.fault, 2, u64::from(word)),
             },
-            Found::Known(word, known) => self.advance_by(arch, memory, physical, word, &known),
+            Found::Known(word, known) => self.advance_by(arch, memory, physical, word, known),
         }
     }
 

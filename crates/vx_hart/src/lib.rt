@@ -2,7 +2,8 @@
 //!
 //! It stands on `vx_decode`, on the vector state of `vx_vstate`, on the effects of `vx_scalar`, on the vector arithmetic of
 //! `vx_exec`, on the accesses of vector memory of `vx_vaddr` and on the definitions of `vx_flat`, which it computes over any
-//! `Memory`. To the crates above it gives `Executor`: what stands at the pc, and what that does, as a whole or in its parts.
+//! `Memory`. To the crates above it gives `find`, which tells what stands at the pc, and `Executor`, which does it, as a whole or in
+//! its parts.
 #![tactic(auto)]
 
 mod arch;
@@ -12,6 +13,7 @@ mod controls;
 mod direction;
 mod executor;
 mod failures;
+mod finding;
 mod kept;
 mod memory;
 mod movements;
@@ -26,6 +28,7 @@ pub use arch::Arch;
 pub use asking::asks;
 pub use direction::Direction;
 pub use executor::Executor;
+pub use finding::{Found, find};
 pub use memory::Memory;
-pub use progress::{Advance, Found, Progress};
+pub use progress::{Advance, Progress};
 pub use service::serve;

@@ -1,4 +1,3 @@
-use vx_decode::Known;
 use vx_rows::Class;
 
 /// What became of an instruction.
@@ -10,17 +9,6 @@ pub enum Progress {
     Asks,
     /// It faulted; the executor tells how.
     Faulted,
-}
-
-/// What stands at the pc.
-#[derive(Clone, Copy, Debug)]
-pub enum Found {
-    /// It can't be fetched.
-    Denied,
-    /// A word that means no instruction.
-    Unknown(u32),
-    /// A word, and the instruction that it means.
-    Known(u32, Known),
 }
 
 /// A step: the class of what came next, where it is an instruction that is executed, and what became of it.

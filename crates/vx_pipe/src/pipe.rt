@@ -24,6 +24,7 @@ use std::alloc::{AllocError, Global};
 use std::marker::Model;
 use vx_base::{Fault, Options};
 use vx_cells::Cells;
+use vx_decode::KnownWords;
 use vx_episode::Ended;
 use vx_hart::{Arch, Executor};
 use vx_look::{DataLookUps, FetchLookUps};
@@ -35,6 +36,7 @@ use vx_vaddr::AccessList;
 #[derive(Debug, Drop)]
 pub struct Pipe {
     engine: Engine,
+    words: KnownWords,
 }
 
 impl Model for Pipe {
@@ -82,6 +84,7 @@ impl Pipe {
         ensures machine { IfOk result (λ p. p.machine ≡ organisation_of options.now) }
         ensures counts { IfOk result (λ p. p.counts ≡ record { retired = 0; commits = 0; dirtied = false }) }
     {
+        let words = KnownWords::new(alloc)?;
         let executor = Executor::new(alloc)?;
         let loads = DataLookUps::new(alloc)?;
         let fetches = FetchLookUps::new(alloc)?;
@@ -101,6 +104,7 @@ impl Pipe {
                 lanes: options.lanes,
                 bank_time: options.bank_time,
             },
+            words,
         })
     }
 
@@ -130,7 +134,15 @@ impl Pipe {
         let _pages = memory.pages();
         let cycle = cells.now();
         begin(&mut self.engine, cycle);
-        let over = run(&mut self.engine, cells, arch, memory, root, until);
+        let over = run(
+            &mut self.engine,
+            &mut self.words,
+            cells,
+            arch,
+            memory,
+            root,
+            until,
+        );
         cells.advance(over.clock);
         over.ended
     }

@@ -17,6 +17,7 @@ use crate::laws::refused_instructions_fault;
 use crate::retire::issue;
 use crate::turn::Turn;
 use vx_cells::Cells;
+use vx_decode::KnownWords;
 use vx_hart::{Arch, Progress};
 use vx_paged::{Paged, walks_leave_pages};
 
@@ -24,6 +25,7 @@ use vx_paged::{Paged, walks_leave_pages};
 #[inline(never)]
 pub(crate) fn refuse<C: Cells>(
     engine: &mut Engine,
+    words: &mut KnownWords,
     cells: &mut C,
     arch: &mut Arch,
     memory: &mut Paged,
@@ -47,7 +49,7 @@ pub(crate) fn refuse<C: Cells>(
     walks_leave_pages();
     let _pages = memory.pages();
     let issued = issue(fetched, engine.course.retired);
-    let advance = engine.executor.advance(arch, memory, cells);
+    let advance = engine.executor.advance(words, arch, memory, cells);
     let Progress::Faulted = advance.progress else {
         unreachable!()
     };

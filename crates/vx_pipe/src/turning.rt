@@ -20,9 +20,9 @@ use crate::plain::do_plain;
 use crate::refused::refuse;
 use crate::turn::Turn;
 use vx_cells::Cells;
-use vx_decode::Known;
+use vx_decode::{Known, KnownWords};
 use vx_episode::Ended;
-use vx_hart::{Arch, Direction, Found};
+use vx_hart::{Arch, Direction, Found, find};
 use vx_paged::{Paged, tables_stay, walks_leave_pages};
 use vx_rows::Class;
 
@@ -185,6 +185,7 @@ fn do_issued<C: Cells>(
 #[inline(always)]
 fn turn<C: Cells>(
     engine: &mut Engine,
+    words: &mut KnownWords,
     cells: &mut C,
     arch: &mut Arch,
     memory: &mut Paged,
@@ -205,11 +206,11 @@ fn turn<C: Cells>(
     let bank_time = u64::from(engine.bank_time);
     let begun = engine.course.begun;
     let fetched = fetch_next(&mut engine.fetches, cells, root, bank_time, arch.pc, begun);
-    match engine.executor.find(arch, memory, cells) {
-        Found::Denied => refuse(engine, cells, arch, memory, root, until, fetched),
-        Found::Unknown(_) => refuse(engine, cells, arch, memory, root, until, fetched),
+    match find(words, arch, memory, cells) {
+        Found::Denied => refuse(engine, words, cells, arch, memory, root, until, fetched),
+        Found::Unknown(_) => refuse(engine, words, cells, arch, memory, root, until, fetched),
         Found::Known(word, known) => do_issued(
-            engine, cells, arch, memory, root, until, fetched, word, &known,
+            engine, cells, arch, memory, root, until, fetched, word, known,
         ),
     }
 }
@@ -224,6 +225,7 @@ pub struct Over {
 /// Goes from instruction to instruction until the episode is over.
 pub(crate) fn run<C: Cells>(
     engine: &mut Engine,
+    words: &mut KnownWords,
     cells: &mut C,
     arch: &mut Arch,
     memory: &mut Paged,
@@ -244,7 +246,7 @@ pub(crate) fn run<C: Cells>(
     ensures memory { memory.new ≡ memory.old }
 {
     for _ in 0..until + 1 {
-        match turn(engine, cells, arch, memory, root, until) {
+        match turn(engine, words, cells, arch, memory, root, until) {
             Turn::Goes => {}
             Turn::Slice(clock) => {
                 return Over {

@@ -30,7 +30,7 @@ do_issued-requires-clause-issued g c =
     issued-at paged c.walks_leave_pages.ensures.shown (machine_of c.args.engine.now) c.args.root c.args.until c.args.memory.now c.find.new.memory (course_of c.args.engine.now.course) c.fetch_next-fetched.result
     c.args.engine.now.loads c.args.engine.now.fetches c.fetch_next-fetched.new.fetches c.args.engine.now.banks before between after (registers_of c.args.arch.now) c.from-bank_time.result
     c.fetch_next-fetched.ensures.issuing c.fetch_next-fetched.ensures.others (sym c.from-bank_time.ensures) same c.find.ensures.rest c.find.ensures.memory c.requires.going.kept
-    c.in-Known.word c.in-Known.known.instr c.in-Known.ensures.found c.requires.going
+    c.in-Known.word c.in-Known.known.now.instr c.in-Known.ensures.found c.requires.going
 
 pub returns-in-Denied-clause-turned : goal.returns-in-Denied-clause-turned
 returns-in-Denied-clause-turned g c start from first output on going =
