@@ -16,7 +16,7 @@ use crate::ahead::walk_ahead;
 use crate::batches::{look_each, walk_each};
 use crate::data_tlb::DataTlb;
 use crate::fate::Looked;
-use crate::pages::{PAGE_BYTES, is_aligned, is_aligned_field, is_canonical};
+use crate::pages::{PAGE_BYTES, is_aligned, is_canonical};
 use std::alloc::{AllocError, Global};
 use std::marker::Model;
 use vx_base::Want;
@@ -52,11 +52,12 @@ fn word_in(frame: u32, address: u64) -> u32
 /// What is known of an access at its batch's start where it is aligned and on the last page of its kind.
 #[inline(always)]
 fn fate_at_last(tlb: &DataTlb, want: Want, started: u64, address: u64, width: u64) -> Fate
+    requires width { 0 < width }
     ensures known { IsKnownBy started result }
     ensures looked { is_unknown (told result) ≡ false → (start : Start) (history : History) (earlier : List BatchTimes) (a : Access) → a.address ≡ address → a.width ≡ width
         → StandsFor tlb.now (fills_of (walks_of_batches earlier)) → told result ≡ fate_of start history earlier want started [] a }
 {
-    if !is_aligned_field(address, width) {
+    if !is_aligned(address, width) {
         return Fate::Unknown;
     }
     match tlb.last_frame(address, want) {

@@ -1,4 +1,4 @@
-ghost use Rattle.std.specs.Prelude.{◌≡◌, ◌==◌, ◌%◌, ◌<◌, ℕ, List, IsTrue};
+ghost use Rattle.std.specs.Prelude.{◌≡◌, ◌==◌, ◌%◌, ◌<◌, ℕ, List};
 ghost use Rattle.vx_image.specs.Pages.{is_canonical, page_of};
 ghost use Rattle.vx_look.specs.Fetches.{is_away};
 ghost use Rattle.vx_look.specs.Filled.{IsFilled, IsFoundBelow};
@@ -38,20 +38,6 @@ pub fn is_aligned(address: u64, width: u64) -> bool
         4 => address % 4 == 0,
         8 => address % 8 == 0,
         _ => address % width == 0,
-    }
-}
-
-/// Whether an access is aligned and has 1, 2, 4 or 8 bytes.
-#[inline(always)]
-pub fn is_aligned_field(address: u64, width: u64) -> bool
-    ensures { IsTrue result → address % width ≡ 0 }
-{
-    match width {
-        1 => true,
-        2 => address % 2 == 0,
-        4 => address % 4 == 0,
-        8 => address % 8 == 0,
-        _ => false,
     }
 }
 
