@@ -30,7 +30,7 @@ EndsLaw = (start : Start) (until : ℕ) (from : Process) (first : CellsState) (c
 module _ (start : Start) (root until : ℕ) (from : Process) (first : CellsState) (course : Course) (issued completed commits : ℕ) (jumps changes : Bool) (caches : Caches) (before after : CellsState) (u : Flat) (pc : ℕ)
     (r : IsRetiring start until from first course issued completed commits jumps changes caches before u) where
   pub over-retired : EndsLaw → (next : Course) (bank_time : ℕ) → next ≡ retired_course course issued completed commits jumps changes → start.machine.window ≡ 1 → start.root ≡ root → start.machine.bank_time ≡ bank_time
-      → until ≤ completed + 1 → u.pc ≡ pc → KeptBehind root bank_time pc next.begun (completed + 1) caches before after
+      → until ≤ completed + 1 → u.pc ≡ pc → KeptBehind root bank_time pc next.begun (completed + 1) caches.fetches before after
       → IsOver start until from first ended.Slice (completed + 1 + trap_cycles) next after u
   over-retired ends next bank_time is window root_is time late at behind =
       let history : History = entry_of start r.history r.now.state ∷ r.history in
@@ -42,7 +42,7 @@ module _ (start : Start) (root until : ℕ) (from : Process) (first : CellsState
       subst (λ (c : Course). IsOver start until from first ended.Slice (completed + 1 + trap_cycles) c after u) (sym is)
       (ends start until from first course issued completed commits jumps changes caches before after u pc window r late at there)
 
-  pub same-behind : (bank_time : ℕ) → start.root ≡ root → start.machine.bank_time ≡ bank_time → OthersBehind root bank_time caches before after
+  pub same-behind : (bank_time : ℕ) → start.root ≡ root → start.machine.bank_time ≡ bank_time → OthersBehind root bank_time caches.fetches before after
       → SameBut root (table_count (pages_of start.residency)) before.contents after.contents
   same-behind bank_time root_is time others =
       others start (entry_of start r.history r.now.state ∷ r.history) time r.fetches

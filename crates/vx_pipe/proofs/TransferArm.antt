@@ -187,10 +187,10 @@ tables-held paged machine root placement start walks middle after on kept held s
 }
 
 -- which words the fetch behind it leaves
-pub others-at : (start : Start) (root bank_time : ℕ) (history : History) (x : Entry) (own : List BatchTimes) (walks : List Walk) (caches : Caches) (middle between : CellsState) → start.machine.bank_time ≡ bank_time → tlb.StandsFor caches.fetches (fills_of (fetch_walks (x ∷ history)))
-    → AreHeld middle root (after_walks start.residency (fetch_walks (x ∷ history) ++ (walks ++ walks_of_batches (own ++ batches_of history)))) → OthersBehind root bank_time caches middle between
+pub others-at : (start : Start) (root bank_time : ℕ) (history : History) (x : Entry) (own : List BatchTimes) (walks : List Walk) (fetches : List (Option Kept)) (middle between : CellsState) → start.machine.bank_time ≡ bank_time → tlb.StandsFor fetches (fills_of (fetch_walks (x ∷ history)))
+    → AreHeld middle root (after_walks start.residency (fetch_walks (x ∷ history) ++ (walks ++ walks_of_batches (own ++ batches_of history)))) → OthersBehind root bank_time fetches middle between
     → SameBut root (table_count (pages_of start.residency)) middle.contents between.contents
-others-at start root bank_time history x own walks caches middle between time stands held law = law start (record x { batches = batch-with walks ∷ own } ∷ history) time stands held
+others-at start root bank_time history x own walks fetches middle between time stands held law = law start (record x { batches = batch-with walks ∷ own } ∷ history) time stands held
 
 -- the element that is reached is one of the registers
 pub low-so : (t : Transfer) (k : ℕ) (s v : Flat) → v ≡ below_done t k s → v.v.vstart < v.v.vlen → k < s.v.vlen

@@ -122,7 +122,7 @@ module _ (paged : PagedLaws) (machine : Organisation) (root : ℕ) (placement : 
     pub over-by : start.machine.bank_time ≡ bank_time → (continued i.now.state).pc ≡ pc → f.jumps ≡ false
         → EndsAs start until from (ending_of start i.history e (walk_behind start i.history e (continued i.now.state).pc (fetch_behind f issued)) last why process commits completed changed)
         → AreKept start (after_walks start.residency (fetch_walks (e ∷ i.history) ++ (done ++ data_walks i.history))) first middle
-        → KeptBehind root bank_time pc (issued + 1) last (record { loads = new; fetches = fetches; stamps = free }) middle between
+        → KeptBehind root bank_time pc (issued + 1) last fetches middle between
         → rest_of placement after ≡ rest_of placement between → clock ≡ clock_by last (accesses_of e.batches) → next.commits ≡ commits → next.completed ≡ completed → next.changed ≡ changed
         → alike.StandsFor v process.state → HasCome from process why next.completed
         → IsOver start until from first why clock next after v

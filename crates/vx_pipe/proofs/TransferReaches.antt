@@ -147,7 +147,7 @@ module _ (paged : PagedLaws) (laws : StepLaws) (batching : ReachLaws) (machine :
         ∙ ap (λ (ws : List Walk). ws ++ data_walks i.history) (sym (batching.walks start i.history i.now.state course.retired issued f last own b rest n.looked n.committed n.before n.done its so))
 
     over-at : (bank_time pc clock : ℕ) (next : Course) → start.machine.bank_time ≡ bank_time → (continued i.now.state).pc ≡ pc → prefix_at k u ≡ Some v → k < i.now.state.v.vlen
-        → KeptBehind root bank_time pc (issued + 1) n.committed (record { loads = ahead; fetches = fetches; stamps = free }) looking between → rest_of placement after ≡ rest_of placement between
+        → KeptBehind root bank_time pc (issued + 1) n.committed fetches looking between → rest_of placement after ≡ rest_of placement between
         → clock ≡ max n.committed done-behind + trap_cycles → next.commits ≡ course.commits + (k - t.movement.at.vstart) → next.completed ≡ course.completed → next.changed ≡ true
         → IsOver start until from first Slice clock next after v
     over-at bank_time pc clock next time at is-prefix low behind-kept same clock-then commits-then completed-then changed-then =
@@ -172,7 +172,7 @@ module _ (paged : PagedLaws) (laws : StepLaws) (batching : ReachLaws) (machine :
       → IsAhead start i.history e (list ++ batches_of i.history) f (max n.looked n.before + 1) b n.committed root middle looking done-behind
       → middle.frames ≡ before.frames → middle.cycle ≡ before.cycle → SameBut root (table_count (pages_of start.residency)) before.contents middle.contents
       → (bank_time pc clock : ℕ) (next : Course) → start.machine.bank_time ≡ bank_time → (continued i.now.state).pc ≡ pc → prefix_at k u ≡ Some v → k < i.now.state.v.vlen
-      → KeptBehind root bank_time pc (issued + 1) n.committed (record { loads = ahead; fetches = fetches; stamps = free }) looking between → rest_of placement after ≡ rest_of placement between
+      → KeptBehind root bank_time pc (issued + 1) n.committed fetches looking between → rest_of placement after ≡ rest_of placement between
       → clock ≡ max n.committed done-behind + trap_cycles → next.commits ≡ course.commits + (k - t.movement.at.vstart) → next.completed ≡ course.completed → next.changed ≡ true
       → IsOver start until from first Slice clock next after v
   by-own is-moving is late [] ends-at count some counted early done-behind so a frames cycle others = absurd (omega (arith, count, some))
@@ -183,7 +183,7 @@ module _ (paged : PagedLaws) (laws : StepLaws) (batching : ReachLaws) (machine :
       (p : IsPassing start i.history e course.retired issued f t k (b ∷ rest) n root new free before middle)
       → IsAhead start i.history e (p.own ++ batches_of i.history) f (max n.looked n.before + 1) b n.committed root middle looking done-behind
       → (bank_time pc clock : ℕ) (next : Course) → start.machine.bank_time ≡ bank_time → (continued i.now.state).pc ≡ pc → prefix_at k u ≡ Some v → k < i.now.state.v.vlen
-      → KeptBehind root bank_time pc (issued + 1) n.committed (record { loads = ahead; fetches = fetches; stamps = free }) looking between → rest_of placement after ≡ rest_of placement between
+      → KeptBehind root bank_time pc (issued + 1) n.committed fetches looking between → rest_of placement after ≡ rest_of placement between
       → clock ≡ max n.committed done-behind + trap_cycles → next.commits ≡ course.commits + (k - t.movement.at.vstart) → next.completed ≡ course.completed → next.changed ≡ true
       → IsOver start until from first Slice clock next after v
   over-reached is-moving is late some early done-behind p a =

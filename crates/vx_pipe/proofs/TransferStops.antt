@@ -163,7 +163,7 @@ module _ (paged : PagedLaws) (laws : StepLaws) (batching : StopLaws) (machine : 
         (walks_of_batches (times ∷ st.own ++ batches_of i.history)) st.ready.held st.frames st.cycle st.others)
 
     pub over-stopped : (bank_time pc clock : ℕ) (fault : Fault) (next : Course) → start.machine.bank_time ≡ bank_time → (continued i.now.state).pc ≡ pc → (t.movement.at.vstart < k → n.committed < until)
-        → step u ≡ Faulted fault v → KeptBehind root bank_time pc (issued + 1) last (record { loads = new; fetches = fetches; stamps = free }) middle between → rest_of placement after ≡ rest_of placement between
+        → step u ≡ Faulted fault v → KeptBehind root bank_time pc (issued + 1) last fetches middle between → rest_of placement after ≡ rest_of placement between
         → clock ≡ max (max n.looked n.committed) n.done + trap_cycles → next.commits ≡ course.commits + (k - t.movement.at.vstart) → next.completed ≡ course.completed → next.changed ≡ (course.changed || nat_lt t.movement.at.vstart k)
         → IsOver start until from first (ended.Faulted fault) clock next after v
     over-stopped bank_time pc clock fault next time at early steps behind-kept same clock-then commits-then completed-then changed-then =

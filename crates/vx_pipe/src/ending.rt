@@ -3,7 +3,7 @@
 ghost use Rattle.std.specs.Prelude.{◌≡◌, ◌+◌, ◌≤◌, ◌^◌};
 ghost use Rattle.vx_episode.specs.Episode.{trap_cycles};
 ghost use Rattle.vx_pipe.specs.Ending.{KeptBehind, OthersBehind};
-ghost use Rattle.vx_pipe.specs.Turning.{caches_of, machine_of};
+ghost use Rattle.vx_pipe.specs.Turning.{machine_of};
 ghost use Rattle.vx_tables.specs.Walking.{HaveTables};
 
 use crate::engine::Engine;
@@ -28,8 +28,8 @@ pub(crate) fn end_behind<C: Cells>(
     requires begun { begun ≤ 2 ^ 62 }
     requires last { last ≤ 2 ^ 62 }
     ensures clock { result ≡ last + trap_cycles }
-    ensures kept { KeptBehind root engine.old.bank_time pc begun last (caches_of engine.old) (C.state cells.old) (C.state cells.new) }
-    ensures others { OthersBehind root engine.old.bank_time (caches_of engine.old) (C.state cells.old) (C.state cells.new) }
+    ensures kept { KeptBehind root engine.old.bank_time pc begun last engine.old.fetches (C.state cells.old) (C.state cells.new) }
+    ensures others { OthersBehind root engine.old.bank_time engine.old.fetches (C.state cells.old) (C.state cells.new) }
     ensures course { engine.new.course ≡ engine.old.course }
     ensures fault { engine.new.fault ≡ engine.old.fault }
     ensures machine { machine_of engine.new ≡ machine_of engine.old }

@@ -1,16 +1,15 @@
 //! The fetch of the next instruction, and that of the one behind an instruction that ends the episode.
 
-ghost use Rattle.std.specs.Prelude.{◌≡◌, ℕ, ◌+◌, ◌*◌, ◌≤◌, ◌<◌, ◌^◌, List, Option, ◌++◌, option_to_list, nat_le};
+ghost use Rattle.std.specs.Prelude.{◌≡◌, ℕ, ◌+◌, ◌*◌, ◌≤◌, ◌<◌, ◌^◌, List, Option};
 ghost use Rattle.vx_cells.specs.Cells.{CellsState};
 ghost use Rattle.vx_course.specs.Course.{Course};
-ghost use Rattle.vx_episode.specs.Cycles.Cycle.{At};
-ghost use Rattle.vx_episode.specs.History.{History, after_walks, data_walks, fetch_walks, fills_of};
-ghost use Rattle.vx_episode.specs.Instructions.{fetch_times, residency_now};
+ghost use Rattle.vx_episode.specs.History.{History, fetch_walks, fills_of};
+ghost use Rattle.vx_episode.specs.Instructions.{residency_now};
 ghost use Rattle.vx_episode.specs.Organisation.{Start};
 ghost use Rattle.vx_flat.specs.Process.{Process};
 ghost use Rattle.vx_flat.specs.State.{Flat};
-ghost use Rattle.vx_pipe.specs.Going.{AreKept, IsGoing, IsIssuing};
-ghost use Rattle.vx_quiet.specs.Quiet.{ended_by};
+ghost use Rattle.vx_pipe.specs.Ending.{KeptBehind, OthersBehind};
+ghost use Rattle.vx_pipe.specs.Going.{IsGoing, IsIssuing};
 ghost use Rattle.vx_serve.specs.Stamps.{BankStamps};
 ghost use Rattle.vx_tables.specs.Residency.{pages_of};
 ghost use Rattle.vx_tables.specs.Tables.{AreHeld, SameBut, table_count};
@@ -59,13 +58,10 @@ pub(crate) fn fetch_behind<C: Cells>(
     requires tables { HaveTables (C.state cells.old) root }
     requires bank_time { bank_time ≤ 16 }
     requires begun { begun ≤ 2 ^ 62 }
-    ensures kept { (start : Start) (history : History) (first : CellsState) → start.root ≡ root → start.machine.bank_time ≡ bank_time → StandsFor fetches.old (fills_of (fetch_walks history))
-        → AreKept start (residency_now start history) first (C.state cells.old)
-        → AreKept start (after_walks start.residency ((ended_by last (option_to_list (fetch_times start history pc (At begun)).walk) ++ fetch_walks history) ++ data_walks history)) first (C.state cells.new) }
+    ensures kept { KeptBehind root bank_time pc begun last fetches.old (C.state cells.old) (C.state cells.new) }
     ensures tables { HaveTables (C.state cells.new) root }
     ensures frames { (C.state cells.new).frames ≡ (C.state cells.old).frames }
-    ensures others { (start : Start) (history : History) → start.machine.bank_time ≡ bank_time → StandsFor fetches.old (fills_of (fetch_walks history)) → AreHeld (C.state cells.old) root (residency_now start history)
-        → SameBut root (table_count (pages_of start.residency)) (C.state cells.old).contents (C.state cells.new).contents }
+    ensures others { OthersBehind root bank_time fetches.old (C.state cells.old) (C.state cells.new) }
 {
     if begun + 4 * bank_time > last {
         return;

@@ -18,7 +18,7 @@ use Rattle.vx_paged.specs.Framed.{shown}
 use Rattle.vx_paged.specs.declared.placement.FramedPage.{FramedPage}
 use Rattle.vx_vector.specs.Accesses.{movement_count}
 use Rattle.vx_vstate.specs.State.{SettingView}
-use Rattle.vx_pipe.specs.Going.{Caches, IsEpisodeOn, IsOver}
+use Rattle.vx_pipe.specs.Going.{IsEpisodeOn, IsOver}
 use Rattle.vx_pipe.specs.Left.{registers_of}
 use Rattle.vx_pipe.specs.Playing.{shown_state}
 use Rattle.vx_pipe.specs.Turning.{HasTurned, caches_of, course_of, machine_of}
@@ -523,19 +523,18 @@ returns-in-Stops-clause-turned g c start from first output on i =
     let middle : CellsState = g.C.Cells.state c.pass_elements-way.new.cells in
     let between : CellsState = g.C.Cells.state c.fetch_behind.new.cells in
     let after : CellsState = g.C.Cells.state c.transfer-progress-in-Stops.new.physical in
-    let caches : Caches = record { loads = c.pass_elements-way.new.loads; fetches = c.args.engine.now.fetches; stamps = c.pass_elements-way.new.banks } in
     let place = c.walks_leave_pages.ensures.same c.args.memory.now c.transfer-progress-in-Stops.new.memory between after c.transfer-progress-in-Stops.ensures.rest in
     let same = rest-same c.walks_leave_pages.ensures.same c.args.memory.now c.transfer-progress-in-Stops.new.memory between after c.transfer-progress-in-Stops.ensures.rest in
     let v : Flat = shown_state (registers_of c.transfer-progress-in-Stops.new.arch) c.args.memory.now after output in
     let seen : Flat = shown_state (registers_of c.args.arch.now) c.args.memory.now between output in
-    let apart = others-at start c.args.root c.from-bank_time.result i.history (entry_of start i.history i.now.state) gone.own (next_times start i.history c.issue-issued.result (footprint start.machine start.has_vectors start.residency i.now.state) gone.own gone.b).walks caches middle between set.bank i.fetches gone.ready.held c.fetch_behind.ensures.others in
+    let apart = others-at start c.args.root c.from-bank_time.result i.history (entry_of start i.history i.now.state) gone.own (next_times start i.history c.issue-issued.result (footprint start.machine start.has_vectors start.residency i.now.state) gone.own gone.b).walks c.args.engine.now.fetches middle between set.bank i.fetches gone.ready.held c.fetch_behind.ensures.others in
     let still = c.walks_leave_pages.ensures.shown c.args.memory.now c.args.root start.residency (g.C.Cells.state c.args.cells.now).contents (g.C.Cells.state c.fetch_behind.new.cells).contents c.requires.issued.kept on.placed on.alone (λ word out. apart word out ∙ gone.others word out) in
     let outcome : outcome_of c.transfer-progress-in-Stops.result c.transfer-progress-in-Stops.new.self v ≡ Some (transferred t seen) = subst (λ (p : List FramedPage). outcome_of c.transfer-progress-in-Stops.result c.transfer-progress-in-Stops.new.self (shown_state (registers_of c.transfer-progress-in-Stops.new.arch) p after output) ≡ Some (transferred t seen)) place (c.transfer-progress-in-Stops.ensures.done output) in
     let fails = gone.faults u (is-of machine c.args.root c.args.memory.now start c.args.until from first (course_of c.args.engine.now.course) c.args.fetched c.args.engine.now.loads c.args.engine.now.fetches c.args.engine.now.banks before u c.issue-issued.result t on i contents) in
     let told = done-faulted c.transfer-progress-in-Stops.result c.transfer-progress-in-Stops.new.self v fails.1 (transferred t seen) outcome fails.0 (ap (λ (m : Memory). transferred t (flat_of c.args.arch.now m output)) still ∙ fails.2) in
     let next-course : Course = record { retired = c.args.engine.now.course.retired; begun = c.args.engine.now.course.begun; commits = c.args.engine.now.course.completed + (c.args.engine.now.course.reached + c.from-commits.result); completed = c.args.engine.now.course.completed; changed = c.args.engine.now.course.changed || nat_lt c.in-Some.at.vstart c.pass_elements-way.new.i } in
-    let behind : KeptBehind c.args.root c.from-bank_time.result (following u) (c.issue-issued.result + 1) (max c.pass_elements-way.new.numbers.looked c.pass_elements-way.new.numbers.committed) caches middle between =
-    subst (λ (l : ℕ). KeptBehind c.args.root c.from-bank_time.result (following u) (c.issue-issued.result + 1) l caches middle between) c.max-last.ensures c.fetch_behind.ensures.kept in
+    let behind : KeptBehind c.args.root c.from-bank_time.result (following u) (c.issue-issued.result + 1) (max c.pass_elements-way.new.numbers.looked c.pass_elements-way.new.numbers.committed) c.args.engine.now.fetches middle between =
+    subst (λ (l : ℕ). KeptBehind c.args.root c.from-bank_time.result (following u) (c.issue-issued.result + 1) l c.args.engine.now.fetches middle between) c.max-last.ensures c.fetch_behind.ensures.kept in
     subst (λ (f : Fault). IsOver start c.args.until from first (ended.Faulted f) (c.max.result + 20) next-course after (shown_state (registers_of c.transfer-progress-in-Stops.new.arch) c.transfer-progress-in-Stops.new.memory after output)) (sym (c.fault-engine-in-Stops.ensures ∙ last-by c.transfer-progress-in-Stops.result c.transfer-progress-in-Stops.new.self v v fails.0 told.1))
     (subst (λ (p : List FramedPage). IsOver start c.args.until from first (ended.Faulted fails.0) (c.max.result + 20) next-course after (shown_state (registers_of c.transfer-progress-in-Stops.new.arch) p after output)) (sym place)
     (over-stopped paged laws stop machine c.args.root c.args.memory.now start c.args.until from first (course_of c.args.engine.now.course) c.args.fetched c.args.engine.now.loads c.pass_elements-way.new.loads c.args.engine.now.fetches c.args.engine.now.banks c.pass_elements-way.new.banks before middle between after u v c.issue-issued.result t c.pass_elements-way.new.i c.pass_elements-way.new.numbers on c.requires.issued.kept i
@@ -593,7 +592,6 @@ returns-in-Reaches-clause-turned g c start from first output on i =
     let looking : CellsState = g.C.Cells.state c.look_ahead-done.new.cells in
     let between : CellsState = g.C.Cells.state c.fetch_behind-in-Reaches.new.cells in
     let after : CellsState = g.C.Cells.state c.reach.new.physical in
-    let caches : Caches = record { loads = c.look_ahead-done.new.loads; fetches = c.args.engine.now.fetches; stamps = c.pass_elements-way.new.banks } in
     let numbers : Passing = c.pass_elements-way.new.numbers in
     let f : Footprint = footprint start.machine start.has_vectors start.residency i.now.state in
     let ahead : IsAhead start i.history (entry_of start i.history i.now.state) (gone.own ++ batches_of i.history) (footprint start.machine start.has_vectors start.residency i.now.state) (max c.pass_elements-way.new.numbers.looked c.pass_elements-way.new.numbers.before + 1) (element_batch t c.pass_elements-way.new.i) c.pass_elements-way.new.numbers.committed c.args.root middle looking c.look_ahead-done.result =
@@ -605,7 +603,7 @@ returns-in-Reaches-clause-turned g c start from first output on i =
     let seen : Flat = shown_state (registers_of c.args.arch.now) c.args.memory.now between output in
     let apart = others-at start c.args.root c.from-bank_time.result i.history (entry_of start i.history i.now.state) gone.own
     (ended_by c.pass_elements-way.new.numbers.committed (batch_started start i.history (gone.own ++ batches_of i.history) (footprint start.machine start.has_vectors start.residency i.now.state) (element_batch t c.pass_elements-way.new.i) (At (max c.pass_elements-way.new.numbers.looked c.pass_elements-way.new.numbers.before + 1))).walks)
-    caches looking between set.bank i.fetches ahead.held c.fetch_behind-in-Reaches.ensures.others in
+    c.args.engine.now.fetches looking between set.bank i.fetches ahead.held c.fetch_behind-in-Reaches.ensures.others in
     let still = c.walks_leave_pages.ensures.shown c.args.memory.now c.args.root start.residency (g.C.Cells.state c.args.cells.now).contents (g.C.Cells.state c.fetch_behind-in-Reaches.new.cells).contents c.requires.issued.kept on.placed on.alone
     (λ word out. apart word out ∙ ahead.others word out ∙ gone.transferring.others word out) in
     let seen-is : seen ≡ u = ap (λ (m : Memory). flat_of c.args.arch.now m output) still in
