@@ -3,24 +3,11 @@
 ghost use Rattle.std.specs.Prelude.{◌≡◌};
 ghost use Rattle.vx_flat.specs.Control.{writes};
 ghost use Rattle.vx_flat.specs.Operands.{change_in};
-ghost use Rattle.vx_pipe.specs.Classes.{changes_as, is_plain, jumps_as, span_of};
+ghost use Rattle.vx_pipe.specs.Classes.{changes_as, jumps_as, span_of};
 
 use vx_decode::Instr;
 use vx_flat::Change;
 use vx_rows::{Class, Op, ScalarOp};
-
-/// Whether an instruction of a class makes no access and has no beat.
-#[inline(always)]
-pub(crate) fn is_plain(class: Class) -> bool
-    ensures { result ≡ is_plain class }
-{
-    match class {
-        Class::Load | Class::Store => false,
-        Class::VectorArithmetic(_) | Class::VectorLoad(_, _) | Class::VectorStore(_, _) => false,
-        Class::Arithmetic | Class::Multiply | Class::Divide | Class::Jump | Class::Branch => true,
-        Class::Fence | Class::Ecall | Class::Ebreak | Class::Csr | Class::Set => true,
-    }
-}
 
 /// How many cycles after its issue it completes.
 #[inline(always)]
