@@ -14,6 +14,7 @@ ghost use Rattle.vx_pipe.specs.Left.{registers_of};
 ghost use Rattle.vx_pipe.specs.Playing.{shown_state};
 ghost use Rattle.vx_pipe.specs.Turning.{HasTurned, IsIssued, IsTimely, caches_of, course_of, machine_of};
 ghost use Rattle.vx_rows.specs.Table.{class_of};
+ghost use Rattle.vx_rows.specs.declared.row.Class.{Class};
 ghost use Rattle.vx_rows.specs.declared.row.Class.TheVariants as class;
 ghost use Rattle.vx_serve.specs.Fates.{told};
 ghost use Rattle.vx_serve.specs.InTurn.{is_good};
@@ -38,18 +39,77 @@ use vx_pending::{
     footprints_are_the_same, nothing_else_differs, pending_bytes_are_not_read, steps_are_alike,
 };
 use vx_quiet::{instructions_issue_behind_a_quiet_history, instructions_without_accesses_complete};
-use vx_rows::Class;
 use vx_scalar::{access_width, scalar_address};
 use vx_serve::Fate;
 
-/// What the access of a load or a store wants.
-#[inline(always)]
-fn wanted_as(class: Class) -> Want
-    ensures { result ≡ wanted_as class }
-{
-    match class {
-        Class::Store => Want::Store,
-        _ => Want::Load,
+/// A kind of scalar accesses. Code that is generic over it has a copy of its own for each, in which the kind is known.
+pub(crate) trait AccessKind {
+    /// The class of its instructions.
+    ghost kind: { Class };
+
+    /// What its accesses want.
+    fn want() -> Want
+        ensures { result ≡ wanted_as kind };
+
+    /// Does one of its instructions.
+    fn perform<C: Cells>(
+        executor: &mut Executor,
+        arch: &mut Arch,
+        memory: &mut Paged,
+        physical: &mut C,
+        i: &Instr,
+    ) -> Progress
+        requires valid { IsValid i.now }
+        requires class { class_of i.now.op ≡ kind }
+        requires fits { Fits memory.old (C.state physical.old) }
+        ensures rest { rest_of memory.new (C.state physical.new) ≡ rest_of memory.old (C.state physical.old) }
+        ensures performed { (word : ℕ) (output : List ℕ) → let s = shown_state (registers_of arch.old) memory.old (C.state physical.old) output in
+            outcome_of result executor.new (shown_state (registers_of arch.new) memory.new (C.state physical.new) output) ≡ outcome_next s (meaning s word (Some i.now)) };
+}
+
+/// Scalar loads.
+pub(crate) struct Loads;
+
+impl AccessKind for Loads {
+    ghost kind = { class.Load };
+
+    #[inline(always)]
+    fn want() -> Want {
+        Want::Load
+    }
+
+    #[inline(always)]
+    fn perform<C: Cells>(
+        executor: &mut Executor,
+        arch: &mut Arch,
+        memory: &mut Paged,
+        physical: &mut C,
+        i: &Instr,
+    ) -> Progress {
+        executor.load(arch, memory, physical, i)
+    }
+}
+
+/// Scalar stores.
+pub(crate) struct Stores;
+
+impl AccessKind for Stores {
+    ghost kind = { class.Store };
+
+    #[inline(always)]
+    fn want() -> Want {
+        Want::Store
+    }
+
+    #[inline(always)]
+    fn perform<C: Cells>(
+        executor: &mut Executor,
+        arch: &mut Arch,
+        memory: &mut Paged,
+        physical: &mut C,
+        i: &Instr,
+    ) -> Progress {
+        executor.store(arch, memory, physical, i)
     }
 }
 
@@ -64,34 +124,9 @@ fn is_good(fate: Fate) -> bool
     }
 }
 
-/// Does a scalar load or store, by its class.
+/// Does a scalar load or store that was issued: it completes once its access is done, or the episode ends with its fault.
 #[inline(always)]
-fn perform<C: Cells>(
-    executor: &mut Executor,
-    arch: &mut Arch,
-    memory: &mut Paged,
-    physical: &mut C,
-    class: Class,
-    i: &Instr,
-) -> Progress
-    requires valid { IsValid i.now }
-    requires class { class ≡ class_of i.now.op }
-    requires access { IsAccessClass class }
-    requires fits { Fits memory.old (C.state physical.old) }
-    ensures rest { rest_of memory.new (C.state physical.new) ≡ rest_of memory.old (C.state physical.old) }
-    ensures performed { (word : ℕ) (output : List ℕ) → let s = shown_state (registers_of arch.old) memory.old (C.state physical.old) output in
-        outcome_of result executor.new (shown_state (registers_of arch.new) memory.new (C.state physical.new) output) ≡ outcome_next s (meaning s word (Some i.now)) }
-{
-    match class {
-        Class::Store => executor.store(arch, memory, physical, i),
-        _ => executor.load(arch, memory, physical, i),
-    }
-}
-
-/// Does a scalar load or store that was issued: it completes once its access is done, or the episode ends with its fault. The class
-/// stands as a literal where it is called.
-#[inline(always)]
-fn access<C: Cells>(
+pub(crate) fn access<K: AccessKind, C: Cells>(
     engine: &mut Engine,
     cells: &mut C,
     arch: &mut Arch,
@@ -100,12 +135,11 @@ fn access<C: Cells>(
     until: u64,
     fetched: u64,
     word: u32,
-    class: Class,
     i: &Instr,
 ) -> Turn
     requires valid { IsValid i.now }
-    requires class { class ≡ class_of i.now.op }
-    requires access { IsAccessClass class }
+    requires class { class_of i.now.op ≡ K.kind }
+    requires access { IsAccessClass K.kind }
     requires until { until ≤ 2 ^ 42 }
     requires issued { IsIssued (machine_of engine.old) root until memory.old (course_of engine.old.course) fetched (caches_of engine.old) (C.state cells.old) (registers_of arch.old) word i.now }
     ensures turned { (start : Start) (from : Process) (first : CellsState) (output : List ℕ) → IsEpisodeOn (machine_of engine.old) root memory.old start
@@ -134,7 +168,7 @@ fn access<C: Cells>(
     walks_leave_pages();
     let _ = word;
     let bank_time = u64::from(engine.bank_time);
-    let want = wanted_as(class);
+    let want = K::want();
     let address = scalar_address(i, &arch.regs);
     let width = access_width(i.op);
     let behind = arch.pc.wrapping_add(4);
@@ -142,7 +176,7 @@ fn access<C: Cells>(
     let looked = engine
         .loads
         .look_one(cells, root, bank_time, want, issued + 1, address, width);
-    perform(&mut engine.executor, arch, memory, cells, class, i);
+    K::perform(&mut engine.executor, arch, memory, cells, i);
     if is_good(looked.fate) {
         let served = engine.banks.serve_one(looked.fate);
         let completed = u64::max(looked.ended, served.done);
@@ -152,80 +186,4 @@ fn access<C: Cells>(
     }
     engine.fault = engine.executor.fault();
     Turn::Faulted(end_behind(engine, cells, root, behind, issued + 1, looked.ended))
-}
-
-/// Does a scalar load that was issued.
-#[inline(never)]
-pub(crate) fn do_load<C: Cells>(
-    engine: &mut Engine,
-    cells: &mut C,
-    arch: &mut Arch,
-    memory: &mut Paged,
-    root: u32,
-    until: u64,
-    fetched: u64,
-    word: u32,
-    i: &Instr,
-) -> Turn
-    requires valid { IsValid i.now }
-    requires class { class_of i.now.op ≡ class.Load }
-    requires until { until ≤ 2 ^ 42 }
-    requires issued { IsIssued (machine_of engine.old) root until memory.old (course_of engine.old.course) fetched (caches_of engine.old) (C.state cells.old) (registers_of arch.old) word i.now }
-    ensures turned { (start : Start) (from : Process) (first : CellsState) (output : List ℕ) → IsEpisodeOn (machine_of engine.old) root memory.old start
-        → IsIssuing start until from first (course_of engine.old.course) fetched (caches_of engine.old) (C.state cells.old) (shown_state (registers_of arch.old) memory.old (C.state cells.old) output)
-        → HasTurned result engine.new.fault start until from first (course_of engine.new.course) (caches_of engine.new) (C.state cells.new) (shown_state (registers_of arch.new) memory.new (C.state cells.new) output) }
-    ensures timely { IsTimely result (course_of engine.old.course) (course_of engine.new.course) }
-    ensures machine { machine_of engine.new ≡ machine_of engine.old }
-    ensures memory { memory.new ≡ memory.old }
-{
-    access(
-        engine,
-        cells,
-        arch,
-        memory,
-        root,
-        until,
-        fetched,
-        word,
-        Class::Load,
-        i,
-    )
-}
-
-/// Does a scalar store that was issued.
-#[inline(never)]
-pub(crate) fn do_store<C: Cells>(
-    engine: &mut Engine,
-    cells: &mut C,
-    arch: &mut Arch,
-    memory: &mut Paged,
-    root: u32,
-    until: u64,
-    fetched: u64,
-    word: u32,
-    i: &Instr,
-) -> Turn
-    requires valid { IsValid i.now }
-    requires class { class_of i.now.op ≡ class.Store }
-    requires until { until ≤ 2 ^ 42 }
-    requires issued { IsIssued (machine_of engine.old) root until memory.old (course_of engine.old.course) fetched (caches_of engine.old) (C.state cells.old) (registers_of arch.old) word i.now }
-    ensures turned { (start : Start) (from : Process) (first : CellsState) (output : List ℕ) → IsEpisodeOn (machine_of engine.old) root memory.old start
-        → IsIssuing start until from first (course_of engine.old.course) fetched (caches_of engine.old) (C.state cells.old) (shown_state (registers_of arch.old) memory.old (C.state cells.old) output)
-        → HasTurned result engine.new.fault start until from first (course_of engine.new.course) (caches_of engine.new) (C.state cells.new) (shown_state (registers_of arch.new) memory.new (C.state cells.new) output) }
-    ensures timely { IsTimely result (course_of engine.old.course) (course_of engine.new.course) }
-    ensures machine { machine_of engine.new ≡ machine_of engine.old }
-    ensures memory { memory.new ≡ memory.old }
-{
-    access(
-        engine,
-        cells,
-        arch,
-        memory,
-        root,
-        until,
-        fetched,
-        word,
-        Class::Store,
-        i,
-    )
 }

@@ -44,7 +44,9 @@ fn count(course: &mut Course, issued: u64, completed: u64, commits: u64, jumps: 
     course.begun = issued + if jumps { 2 } else { 1 };
     course.completed += 1;
     course.reached += commits;
-    course.changed |= changes;
+    if changes {
+        course.changed = true;
+    }
 }
 
 /// An instruction retires that was issued and completes at these cycles, and committed so often before: the episode goes on, or its

@@ -10,7 +10,7 @@ ghost use Rattle.vx_pipe.specs.Left.{registers_of};
 ghost use Rattle.vx_pipe.specs.Playing.{shown_state};
 ghost use Rattle.vx_pipe.specs.Turning.{HasTurned, IsIssued, IsTimely, IsTurning, caches_of, course_of, machine_of};
 
-use crate::accesses::{do_load, do_store};
+use crate::accesses::{Loads, Stores, access};
 use crate::arithmetic::calculate;
 use crate::effects::do_effect;
 use crate::engine::Engine;
@@ -122,7 +122,7 @@ fn do_issued<C: Cells>(
             Class::Fence,
             &known.instr,
         ),
-        Class::Load => do_load(
+        Class::Load => access::<Loads, C>(
             engine,
             cells,
             arch,
@@ -133,7 +133,7 @@ fn do_issued<C: Cells>(
             word,
             &known.instr,
         ),
-        Class::Store => do_store(
+        Class::Store => access::<Stores, C>(
             engine,
             cells,
             arch,

@@ -74,7 +74,7 @@ retire-requires-clause-tables g c =
     let middle = g.C.Cells.state c.look_one-looked.new.cells in
     let after = g.C.Cells.state c.perform.new.physical in
     let time : c.requires.issued.start.machine.bank_time ≡ c.from-bank_time.result = ap (λ (m : Organisation). m.bank_time) c.requires.issued.on.machine_is ∙ sym c.from-bank_time.ensures in
-    tables-done _ _ _ _ _ _ _ _ _ _ _ c.requires.issued paged c.look_one-looked.new.self c.wanted_as-want.result (c.issue-issued.result + 1) a middle after c.perform.new.memory c.look_one-looked.result.fate c.look_one-looked.result.ended
+    tables-done _ _ _ _ _ _ _ _ _ _ _ c.requires.issued paged c.look_one-looked.new.self c.want-want.result (c.issue-issued.result + 1) a middle after c.perform.new.memory c.look_one-looked.result.fate c.look_one-looked.result.ended
     (c.look_one-looked.ensures.looked c.requires.issued.start _ _ a time refl refl) c.perform.ensures.rest
     (c.walks_leave_pages.ensures.same c.args.memory.now c.perform.new.memory middle after c.perform.ensures.rest)
 
@@ -143,9 +143,9 @@ returns-then-is_good-clause-turned g c start from first output on issuing =
     let good : is_good (told c.look_one-looked.result.fate) ≡ true = sym c.is_good.ensures ∙ c.if-is_good.true in
     let completed : c.max-completed.result ≡ max c.look_one-looked.result.ended c.serve_one-served.result.done = omega (arith, c.max-completed.ensures) in
     let retiring = retires laws (machine_of c.args.engine.now) c.args.root c.args.memory.now start c.args.until from first (course_of c.args.engine.now.course) c.args.fetched c.args.engine.now.loads c.look_one-looked.new.self c.args.engine.now.fetches c.args.engine.now.banks free before middle after
-    (registers_of c.args.arch.now) (registers_of c.perform.new.arch) output c.args.word c.args.i.now c.args.class c.look_one-looked.result.fate c.look_one-looked.result.ended c.perform.result c.perform.new.executor c.wanted_as-want.result c.scalar_address-address.result c.access_width-width.result c.issue-issued.result c.from-bank_time.result
-    on c.requires.issued.kept issuing c.requires.access c.requires.class (next-any shown-before output c.args.word c.args.i.now c.requires.issued.next) (omega (arith, c.issue-issued.ensures))
-    c.wanted_as-want.ensures c.scalar_address-address.ensures c.access_width-width.ensures.value (sym c.from-bank_time.ensures) c.look_one-looked.ensures.looked c.look_one-looked.ensures.started same outcome
+    (registers_of c.args.arch.now) (registers_of c.perform.new.arch) output c.args.word c.args.i.now g.K.AccessKind.kind c.look_one-looked.result.fate c.look_one-looked.result.ended c.perform.result c.perform.new.executor c.want-want.result c.scalar_address-address.result c.access_width-width.result c.issue-issued.result c.from-bank_time.result
+    on c.requires.issued.kept issuing c.requires.access (sym c.requires.class) (next-any shown-before output c.args.word c.args.i.now c.requires.issued.next) (omega (arith, c.issue-issued.ensures))
+    c.want-want.ensures c.scalar_address-address.ensures c.access_width-width.ensures.value (sym c.from-bank_time.ensures) c.look_one-looked.ensures.looked c.look_one-looked.ensures.started same outcome
     good c.serve_one-served.result c.serve_one-served.ensures.serves c.serve_one-served.ensures.by in
     let machine_with : ℕ → Organisation = λ n. record { lanes = c.args.engine.now.lanes; banks = n; bank_time = c.args.engine.now.bank_time; window = 1; batch_limit = 1 } in
     let on-then : IsEpisodeOn (machine_with free.banks) c.args.root c.args.memory.now start =
@@ -179,7 +179,7 @@ end_behind-requires-clause-tables g c =
     let middle = g.C.Cells.state c.look_one-looked.new.cells in
     let after = g.C.Cells.state c.perform.new.physical in
     let time : c.requires.issued.start.machine.bank_time ≡ c.from-bank_time.result = ap (λ (m : Organisation). m.bank_time) c.requires.issued.on.machine_is ∙ sym c.from-bank_time.ensures in
-    tables-done _ _ _ _ _ _ _ _ _ _ _ c.requires.issued paged c.look_one-looked.new.self c.wanted_as-want.result (c.issue-issued.result + 1) a middle after c.perform.new.memory c.look_one-looked.result.fate c.look_one-looked.result.ended
+    tables-done _ _ _ _ _ _ _ _ _ _ _ c.requires.issued paged c.look_one-looked.new.self c.want-want.result (c.issue-issued.result + 1) a middle after c.perform.new.memory c.look_one-looked.result.fate c.look_one-looked.result.ended
     (c.look_one-looked.ensures.looked c.requires.issued.start _ _ a time refl refl) c.perform.ensures.rest
     (c.walks_leave_pages.ensures.same c.args.memory.now c.perform.new.memory middle after c.perform.ensures.rest)
 
@@ -253,17 +253,17 @@ returns-clause-turned g c start from first output on issuing =
     let last = g.C.Cells.state c.end_behind.new.cells in
     let time : start.machine.bank_time ≡ c.args.engine.now.bank_time = ap (λ (m : Organisation). m.bank_time) on.machine_is in
     let kept = kept-then laws (machine_of c.args.engine.now) c.args.root c.args.memory.now start c.args.until from first (course_of c.args.engine.now.course) c.args.fetched c.args.engine.now.loads c.look_one-looked.new.self c.args.engine.now.fetches c.args.engine.now.banks c.args.engine.now.banks before middle after
-    (registers_of c.args.arch.now) (registers_of c.perform.new.arch) output c.args.word c.args.i.now c.args.class c.look_one-looked.result.fate c.look_one-looked.result.ended c.perform.result c.perform.new.executor c.wanted_as-want.result c.scalar_address-address.result c.access_width-width.result c.issue-issued.result c.from-bank_time.result
-    on c.requires.issued.kept issuing c.requires.access c.requires.class (next-any shown-before output c.args.word c.args.i.now c.requires.issued.next) (omega (arith, c.issue-issued.ensures))
-    c.wanted_as-want.ensures c.scalar_address-address.ensures c.access_width-width.ensures.value (sym c.from-bank_time.ensures) c.look_one-looked.ensures.looked c.look_one-looked.ensures.started same outcome bad in
+    (registers_of c.args.arch.now) (registers_of c.perform.new.arch) output c.args.word c.args.i.now g.K.AccessKind.kind c.look_one-looked.result.fate c.look_one-looked.result.ended c.perform.result c.perform.new.executor c.want-want.result c.scalar_address-address.result c.access_width-width.result c.issue-issued.result c.from-bank_time.result
+    on c.requires.issued.kept issuing c.requires.access (sym c.requires.class) (next-any shown-before output c.args.word c.args.i.now c.requires.issued.next) (omega (arith, c.issue-issued.ensures))
+    c.want-want.ensures c.scalar_address-address.ensures c.access_width-width.ensures.value (sym c.from-bank_time.ensures) c.look_one-looked.ensures.looked c.look_one-looked.ensures.started same outcome bad in
     let left = c.end_behind.ensures.kept start (e ∷ issuing.history) first on.root_is time issuing.fetches kept in
     let held : AreHeld after c.args.root (residency_now start (e ∷ issuing.history)) = subst (λ (r : ℕ). AreHeld after r (residency_now start (e ∷ issuing.history))) on.root_is kept.held in
     let shown-last : shown c.args.memory.now last.contents ≡ shown c.args.memory.now after.contents =
     c.walks_leave_pages.ensures.shown c.args.memory.now c.args.root start.residency after.contents last.contents c.requires.issued.kept on.placed on.alone (c.end_behind.ensures.others start (e ∷ issuing.history) time issuing.fetches held) in
     let over = is-over laws (machine_of c.args.engine.now) c.args.root c.args.memory.now start c.args.until from first (course_of c.args.engine.now.course) c.args.fetched c.args.engine.now.loads c.look_one-looked.new.self c.args.engine.now.fetches c.args.engine.now.banks c.args.engine.now.banks before middle after
-    (registers_of c.args.arch.now) (registers_of c.perform.new.arch) output c.args.word c.args.i.now c.args.class c.look_one-looked.result.fate c.look_one-looked.result.ended c.perform.result c.perform.new.executor c.wanted_as-want.result c.scalar_address-address.result c.access_width-width.result c.issue-issued.result c.from-bank_time.result
-    on c.requires.issued.kept issuing c.requires.access c.requires.class (next-any shown-before output c.args.word c.args.i.now c.requires.issued.next) (omega (arith, c.issue-issued.ensures))
-    c.wanted_as-want.ensures c.scalar_address-address.ensures c.access_width-width.ensures.value (sym c.from-bank_time.ensures) c.look_one-looked.ensures.looked c.look_one-looked.ensures.started same outcome bad last (next_pc c.args.arch.now.pc) refl left shown-last in
+    (registers_of c.args.arch.now) (registers_of c.perform.new.arch) output c.args.word c.args.i.now g.K.AccessKind.kind c.look_one-looked.result.fate c.look_one-looked.result.ended c.perform.result c.perform.new.executor c.want-want.result c.scalar_address-address.result c.access_width-width.result c.issue-issued.result c.from-bank_time.result
+    on c.requires.issued.kept issuing c.requires.access (sym c.requires.class) (next-any shown-before output c.args.word c.args.i.now c.requires.issued.next) (omega (arith, c.issue-issued.ensures))
+    c.want-want.ensures c.scalar_address-address.ensures c.access_width-width.ensures.value (sym c.from-bank_time.ensures) c.look_one-looked.ensures.looked c.look_one-looked.ensures.started same outcome bad last (next_pc c.args.arch.now.pc) refl left shown-last in
     let there : IsOver start c.args.until from first (ended.Faulted c.perform.new.executor) (c.look_one-looked.result.ended + 20) (course_of c.args.engine.now.course) last (shown_state (registers_of c.perform.new.arch) c.perform.new.memory last output) =
     subst (λ (p : List FramedPage). IsOver start c.args.until from first (ended.Faulted c.perform.new.executor) (c.look_one-looked.result.ended + 20) (course_of c.args.engine.now.course) last (shown_state (registers_of c.perform.new.arch) p last output))
     (sym placed) over in
