@@ -1,12 +1,12 @@
 -- Small programs and when what they do comes, on which the definitions are computed. This project's own; the cycles were worked out
 -- by hand from the equations, as docs/TIMES.md shows.
-use Rattle.std.specs.Prelude.{◌≡◌, ℕ, ◌^◌, ◌-◌, Bool, true, false, List, [], ◌∷◌, ◌++◌, map, flat_map, filter, replicate, reverse, Option, Some, None, option_map}
+use Rattle.std.specs.Prelude.{◌≡◌, ℕ, ◌*◌, ◌^◌, ◌-◌, Bool, true, false, List, [], ◌∷◌, ◌++◌, map, flat_map, filter, replicate, reverse, Option, Some, None, option_map}
 use Rattle.std.specs.Option.{option_map_or}
 use Rattle.vx_base.specs.Numbers.{little_endian}
 use Rattle.vx_cells.specs.declared.access.Access as cells
 use Rattle.vx_cells.specs.declared.access.Port.{Port}
 use Rattle.vx_cells.specs.declared.access.Port.TheVariants as port
-use Rattle.vx_base.specs.declared.machine.Want.TheVariants.{Fetch, Store}
+use Rattle.vx_base.specs.declared.machine.Want.TheVariants.{Fetch, Load, Store}
 use Rattle.vx_flat.specs.Process.{Process}
 use Rattle.vx_image.specs.Pages.{MappedPage, Memory}
 use Rattle.vx_tables.specs.Residency.{Residency, PlacedPage, Place}
@@ -220,6 +220,26 @@ gathers_alone = 0x06c57807 ∷ []
 -- ld a1, 0(a0); jal zero, 0x7ffc
 abbrev pub loads_and_jumps : List ℕ
 loads_and_jumps = 0x00053583 ∷ 0x7fd0706f ∷ []
+
+-- mul a3, a0, a1; add a4, zero, a3; mul zero, a0, a1; addi a4, zero, 1; fence; beq zero, zero, 4; mul a5, a2, a1;
+-- vsetvl t0, a2, a5; ecall
+abbrev pub waits_for_operands : List ℕ
+waits_for_operands =
+    0x02b506b3 ∷ 0x00d00733 ∷ 0x02b50033 ∷ 0x00100713 ∷ 0x0000000f ∷ 0x00000263 ∷ 0x02b607b3 ∷ 0x80f672d7 ∷ 0x00000073 ∷ []
+
+-- mul a3, a0, a1; ld a4, 0(a3); mul a3, a0, a1; sd a1, 8(a3); mul a3, a0, a1; vle64.v v8, (a3); mul a5, a2, a1;
+-- vlse64.v v12, (a0), a5; ecall
+abbrev pub waits_for_bases : List ℕ
+waits_for_bases =
+    0x02b506b3 ∷ 0x0006b703 ∷ 0x02b506b3 ∷ 0x00b6b423 ∷ 0x02b506b3 ∷ 0x0206f407 ∷ 0x02b607b3 ∷ 0x0af57607 ∷ 0x00000073 ∷ []
+
+-- vdivu.vv v20, v24, v16; vdivu.vv v8, v24, v16; vle64.v v8, (a0); vadd.vv v12, v8, v8; ecall
+abbrev pub loads_over : List ℕ
+loads_over = 0x83882a57 ∷ 0x83882457 ∷ 0x02057407 ∷ 0x02840657 ∷ 0x00000073 ∷ []
+
+-- sw a1, 4(a0); ecall
+abbrev pub stores_half : List ℕ
+stores_half = 0x00b52223 ∷ 0x00000073 ∷ []
 
 -- ---- what they come to
 
@@ -575,6 +595,48 @@ pub record WalksHold : Type 0 where
   pub cycles : log_cycles side_by_side ≡ 5 ∷ 9 ∷ 13 ∷ 17 ∷ 17 ∷ 18 ∷ 22 ∷ 24 ∷ 26 ∷ 28 ∷ 30 ∷ 32 ∷ 34 ∷ 35 ∷ 36 ∷ 36 ∷ []
   pub writes : writes_of side_by_side ≡ written 17 port.FetchWalk 1040 5211 ∷ written 34 port.Walk 1048 7259 ∷ written 36 port.FetchWalk 1048 7259 ∷ []
 
+-- each operand in an x register is waited for, but not x0: here for products, three cycles behind their issue. A fence waits for the
+-- retire before it, and the fetch behind a branch begins two cycles behind its issue
+abbrev pub wide : (lanes : ℕ) → Start
+wide lanes = started (overlapped lanes 8 16) (code_page ∷ data_page ∷ []) 0
+
+abbrev pub by_operands : (words : List ℕ) → Process
+by_operands words = process two_elements 0x11000 1 8 (zero_page 17 ∷ []) words
+
+-- a load over words that divisions make later: the addition waits for these
+abbrev pub over_divisions : Process
+over_divisions = by_operands loads_over
+
+-- a store of the high half of a word
+abbrev pub half_storer : Process
+half_storer = process no_vectors 0x11000 5 0 (zero_page 17 ∷ []) stores_half
+
+-- a fault-only-first load whose element 5 lies on a page that is away: that stops it, and vl stays
+abbrev pub loads_away : Option EpisodeEnd
+loads_away = episode (record trimming { residency = code_page ∷ data_page ∷ placed_page 18 6 Away ∷ [] }) 1000
+    (process (eight_elements 0) 0x11fd8 0 0 (last_page ∷ zero_page 18 ∷ []) loads_first)
+
+-- one whose element 0 can't be read
+abbrev pub loads_none : Option EpisodeEnd
+loads_none = episode trimming 1000 (process (eight_elements 0) 0x12000 0 0 (last_page ∷ []) loads_first)
+
+-- vectors that the process hasn't got
+abbrev pub lacks_for : (words : List ℕ) → Option Ended
+lacks_for words = ended_of (episode lacking 1000 (process (eight_elements 0) 0x11000 0 0 [] words))
+
+pub record OperandsHold : Type 0 where
+  pub operands : issue_cycles (instructions (wide 2) 1000 (by_operands waits_for_operands).state) ≡ 17 ∷ 20 ∷ 21 ∷ 22 ∷ 27 ∷ 28 ∷ 30 ∷ 33 ∷ 36 ∷ []
+  pub bases : issue_cycles (instructions (wide 2) 1000 (by_operands waits_for_bases).state) ≡ 17 ∷ 20 ∷ 21 ∷ 24 ∷ 25 ∷ 28 ∷ 29 ∷ 32 ∷ 76 ∷ []
+  pub over : beat_cycles (instructions (wide 1) 1000 over_divisions.state) ≡ (18 ∷ 26 ∷ []) ∷ (34 ∷ 42 ∷ []) ∷ [] ∷ (50 ∷ 58 ∷ []) ∷ [] ∷ []
+  pub half : writes_of (episode storing 1000 half_storer)
+      ≡ written 17 port.FetchWalk 1040 5211 ∷ written 34 port.Walk 1041 6359 ∷ record (written 35 port.Data 3072 (5 * 2 ^ 32)) { bytes = 240 } ∷ []
+  pub away : ended_of loads_away ≡ Some (ended.Away 0x12000 Load)
+  pub none : ended_of loads_none ≡ Some (ended.Faulted (record { cause = 13; tval = 0x12000; vstart = 0 }))
+  pub arithmetic : lacks_for calculates ≡ Some ended.Vector
+  pub load : lacks_for loads_first ≡ Some ended.Vector
+  pub store : lacks_for stores_eight ≡ Some ended.Vector
+  pub control : lacks_for reads_vlenb ≡ Some ended.Vector
+
 pub record ExamplesHold : Type 0 where
   pub hi : HiHolds
   pub calculates : CalculatesHolds
@@ -593,3 +655,4 @@ pub record ExamplesHold : Type 0 where
   pub batches : BatchesHold
   pub ties : TiesHold
   pub walks : WalksHold
+  pub operands : OperandsHold

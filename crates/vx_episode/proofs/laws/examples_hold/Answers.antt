@@ -10,7 +10,7 @@ use Rattle.vx_vector.specs.Batches.{longest_run}
 use Rattle.vx_packed.specs.Joined.{some_below}
 use Rattle.vx_episode.specs.Footprint.{footprint}
 use Rattle.vx_episode.specs.Episode.{run_on, fetched_on, episode}
-use Rattle.vx_episode.specs.Examples.{HiHolds, CalculatesHolds, LoadsHold, StoresHold, AcrossHolds, TrimsHold, InFlightHold, WaitsHold, StopsHold, ChainsHold, HandlesHold, MasksHold, ScattersHold, JumpsHold, BatchesHold, TiesHold, WalksHold}
+use Rattle.vx_episode.specs.Examples.{HiHolds, CalculatesHolds, LoadsHold, StoresHold, AcrossHolds, TrimsHold, InFlightHold, WaitsHold, StopsHold, ChainsHold, HandlesHold, MasksHold, ScattersHold, JumpsHold, BatchesHold, TiesHold, WalksHold, OperandsHold}
 use Rattle.vx_episode.specs.Show.{is_pending}
 use Rattle.vx_episode.proofs.laws.examples_hold.Goals as goal
 
@@ -82,5 +82,9 @@ walks : WalksHold
 unfolding operations upcoming performed page_map after_walk walk table_walk entry_in merged after_elements longest_run some_below footprint run_on fetched_on episode
 walks = record { ends = refl; cycles = refl; writes = refl }
 
+operands : OperandsHold
+unfolding operations upcoming performed page_map after_walk walk table_walk entry_in merged after_elements longest_run some_below footprint run_on fetched_on episode
+operands = record { operands = refl; bases = refl; over = refl; half = refl; away = refl; none = refl; arithmetic = refl; load = refl; store = refl; control = refl }
+
 pub returns : goal.returns
-returns c = record { hi = hi; calculates = calculates; loads = loads; stores = stores; across = across; trims = trims; in_flight = in_flight; waits = waits; stops = stops; chains = chains; handles = handles; masks = masks; scatters = scatters; jumps = jumps; batches = batches; ties = ties; walks = walks }
+returns c = record { hi = hi; calculates = calculates; loads = loads; stores = stores; across = across; trims = trims; in_flight = in_flight; waits = waits; stops = stops; chains = chains; handles = handles; masks = masks; scatters = scatters; jumps = jumps; batches = batches; ties = ties; walks = walks; operands = operands }
