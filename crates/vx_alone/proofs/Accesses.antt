@@ -132,12 +132,30 @@ permits_alike memory a b want same =
     let upper : a / 2 ^ 38 ≡ b / 2 ^ 38 = sym (shr-shr a 12 26) ∙ ap (λ (q : ℕ). q / 2 ^ 26) same ∙ shr-shr b 12 26 in
     rw (upper, same) refl
 
--- where an address is let through, so is its page
-pub serves-page : (entries : List PageEntry) (want : Want) (address k : ℕ) → IsGrantedAt entries address want k → Serves entries want (page_of address) k
-serves-page entries want address k granted other below same = record {
-  place = subst (λ (n : ℕ). IsPlaceOf entries n k) (sym same) granted.place;
-  permitted = λ bytes. permits_alike (pages_of entries bytes) other address want same ∙ granted.permitted bytes;
-}
+-- the number of a page is no less than its place
+number-from : (entries : List PageEntry) → IsRising entries → (k : ℕ) → k < length entries → k ≤ (entry_at entries k).page
+number-from entries rising zero within = omega arith
+number-from entries rising (suc k) within = omega (arith, number-from entries rising k (omega arith), rising k (suc k) (omega arith) within)
+
+pub place-within : (entries : List PageEntry) → IsRising entries → (address k : ℕ) → IsPlaceOf entries (page_of address) k → k ≤ address / 4096
+place-within entries rising address k place =
+    let same : (entry_at entries k).page ≡ address / 4096 = place.same in
+    omega (arith, number-from entries rising k place.within, same)
+
+-- where an address is let through, so is each of its page
+pub serves-page : (entries : List PageEntry) → IsRising entries → (want : Want) (address k above : ℕ) → IsGrantedAt entries address want k → above + 4096 * k ≡ 4096 * (address / 4096) → Serves entries want (page_of address) above
+serves-page entries rising want address k above granted far other below same =
+    let on : other / 4096 ≡ address / 4096 = same in (
+      omega (arith, far, on),
+      record {
+        place = k;
+        granted = record {
+          place = subst (λ (n : ℕ). IsPlaceOf entries n k) (sym same) granted.place;
+          permitted = λ bytes. permits_alike (pages_of entries bytes) other address want same ∙ granted.permitted bytes;
+        };
+        byte = omega (arith, far, on);
+      },
+    )
 
 module _ (memory : Memory) (want : Want) (page : ℕ) (granted : permits memory (page * 4096) want ≡ true) where
   -- where one address of a page is let through, each is

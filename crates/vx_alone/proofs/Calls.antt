@@ -1,5 +1,5 @@
 -- What a process's step is where a service is asked for, which is by an ecall.
-use Rattle.std.proofs.Common.{◌≡◌, Option, None, Some, IfSome, true, false, refl, sym, ap, ◌∙◌}
+use Rattle.std.proofs.Common.{◌≡◌, Option, None, Some, IfSome, true, refl, sym, ap, ◌∙◌}
 use Rattle.std.specs.Prelude.{ℤ}
 use Rattle.std.proofs.lemmas.Bool.{false≢true}
 use Rattle.vx_decode.specs.declared.instr.Instr.{Instr}

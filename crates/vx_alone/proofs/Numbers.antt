@@ -1,6 +1,6 @@
 -- Numbers and their bytes, least first.
-use Rattle.std.proofs.Common.{◌≡◌, ℕ, zero, suc, ◌+◌, ◌/◌, ◌%◌, ◌<◌, ◌≤◌, List, [], ◌∷◌, ◌++◌, length, take, drop, set, refl, sym, ap, ◌∙◌, append_assoc, take-append-drop, add-zero, arith}
-use Rattle.std.proofs.lemmas.List.{length-set, take_more_set, drop-set-lt}
+use Rattle.std.proofs.Common.{◌≡◌, ℕ, zero, suc, ◌+◌, ◌/◌, ◌%◌, ◌<◌, ◌≤◌, List, [], ◌∷◌, ◌++◌, length, get_or, take, drop, set, refl, sym, ap, ◌∙◌, append_assoc, take-append-drop, add-zero, arith}
+use Rattle.std.proofs.lemmas.List.{append-nil, drop-drop, drop-set-lt, take_more, take_more_set}
 use Rattle.std.specs.Int.{to_le_bytes, w64}
 use Rattle.vx_base.specs.Numbers.{little_endian}
 
@@ -35,21 +35,38 @@ put_next bytes values value i within =
     rw (take_more_set bytes i value within, drop-set-lt (i + 1 + length values) bytes i value (omega arith), behind)
     (append_assoc (take i bytes) (value ∷ []) (values ++ drop (i + suc (length values)) bytes))
 
--- values put at indices from i + j on, one by one
-abbrev pub put_all : (values bytes : List ℕ) (i j : ℕ) → List ℕ
-put_all [] bytes i j = bytes
-put_all (value ∷ values) bytes i j = put_all values (set bytes (i + j) value) i (suc j)
+-- the first values of a list stand at an index, and behind them what was there
+pub record IsPut (old values : List ℕ) (i k : ℕ) (new : List ℕ) : Type 0 where
+  pub front : take (i + k) new ≡ take i old ++ take k values
+  pub behind : drop (i + k) new ≡ drop (i + k) old
 
-puts-on : (values bytes : List ℕ) (i j : ℕ) → i + j + length values ≤ length bytes → put_all values bytes i j ≡ take (i + j) bytes ++ (values ++ drop (i + j + length values) bytes)
-puts-on [] bytes i j fits =
-    sym (take-append-drop (i + j) bytes) ∙ ap (λ (n : ℕ). take (i + j) bytes ++ drop n bytes) (sym (add-zero (i + j)))
-puts-on (value ∷ values) bytes i j fits =
-    let next : i + suc j ≡ i + j + 1 = omega arith in
-    puts-on values (set bytes (i + j) value) i (suc j) (omega (arith, fits, length-set bytes (i + j) value))
-    ∙ ap (λ (n : ℕ). take n (set bytes (i + j) value) ++ (values ++ drop (n + length values) (set bytes (i + j) value))) next
-    ∙ put_next bytes values value (i + j) (omega (arith, fits))
+pub put_none : (old values : List ℕ) (i : ℕ) → IsPut old values i 0 old
+put_none old values i = record { front = rw (add-zero i) (sym (append-nil (take i old))); behind = refl }
 
-pub puts : (value : ℕ) (values bytes : List ℕ) (i : ℕ) → i + suc (length values) ≤ length bytes → put_all values (set bytes i value) i 1 ≡ take i bytes ++ ((value ∷ values) ++ drop (i + suc (length values)) bytes)
-puts value values bytes i fits =
-    puts-on values (set bytes i value) i 1 (omega (arith, fits, length-set bytes i value))
-    ∙ put_next bytes values value i (omega (arith, fits))
+-- one more
+pub more_put : (old values new : List ℕ) (i k : ℕ) → k < length values → i + k < length new → IsPut old values i k new → IsPut old values i (k + 1) (set new (i + k) (get_or values k 0))
+more_put old values new i k some within put =
+    let value = get_or values k 0 in
+    let next : i + (k + 1) ≡ i + k + 1 = omega arith in
+    record {
+      front =
+          ap (λ (n : ℕ). take n (set new (i + k) value)) next
+          ∙ take_more_set new (i + k) value within
+          ∙ ap (λ (xs : List ℕ). xs ++ value ∷ []) put.front
+          ∙ append_assoc (take i old) (take k values) (value ∷ [])
+          ∙ ap (λ (xs : List ℕ). take i old ++ xs) (sym (take_more values k 0 some));
+      behind =
+          ap (λ (n : ℕ). drop n (set new (i + k) value)) next
+          ∙ drop-set-lt (i + k + 1) new (i + k) value (omega arith)
+          ∙ sym (drop-drop 1 (i + k) new)
+          ∙ ap (λ (xs : List ℕ). drop 1 xs) put.behind
+          ∙ drop-drop 1 (i + k) old
+          ∙ ap (λ (n : ℕ). drop n old) (sym next);
+    }
+
+-- all of them
+pub all_put : (old values new : List ℕ) (i n : ℕ) → IsPut old values i n new → new ≡ take i old ++ (take n values ++ drop (i + n) old)
+all_put old values new i n put =
+    sym (take-append-drop (i + n) new)
+    ∙ (λ j. put.front j ++ put.behind j)
+    ∙ append_assoc (take i old) (take n values) (drop (i + n) old)

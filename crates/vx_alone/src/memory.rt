@@ -3,9 +3,9 @@ ghost use Rattle.vx_base.specs.Numbers.{from_little_endian, little_endian};
 ghost use Rattle.vx_base.specs.declared.machine.Want.TheVariants as want;
 ghost use Rattle.vx_flat.specs.Memory.{bytes_at, all_permit, put_bytes};
 ghost use Rattle.vx_flat.specs.Service.{is_readable};
-ghost use Rattle.vx_image.specs.Pages.{permits, is_canonical};
+ghost use Rattle.vx_image.specs.Pages.{permits, page_of, is_canonical};
 ghost use Rattle.vx_image.specs.Kept.{pages_of, IsRising, IsPlaceOf, IsKept, Lacks};
-ghost use Rattle.vx_alone.specs.Granted.{IsGrantedAt, Serves};
+ghost use Rattle.vx_alone.specs.Granted.{IsGrantedAt, IsGrantedTo, Serves};
 ghost use Rattle.vx_scalar.specs.Operands.{is_access_width};
 
 use std::alloc::{AllocError, Global};
@@ -19,11 +19,12 @@ const PAGE_LEN: usize = 4096;
 /// The same, as a step of addresses.
 const PAGE_BYTES: u64 = PAGE_LEN as u64;
 
-/// A page that the last access of a kind was let through to, by its number, and its place among the entries.
+/// A page that the last access of a kind was let through to: its number, and how far its addresses lie above the indices of
+/// their bytes.
 #[derive(Clone, Copy, Debug)]
 struct LastPage {
     number: u64,
-    place: usize,
+    above: u64,
 }
 
 impl LastPage {
@@ -33,7 +34,56 @@ impl LastPage {
     {
         LastPage {
             number: u64::MAX,
-            place: 0,
+            above: 0,
+        }
+    }
+
+    /// The page of an address, where an access of this kind is let through.
+    #[inline(never)]
+    fn of(entries: &[PageEntry], address: u64, want: Want) -> Option<LastPage>
+        requires { IsRising entries.now }
+        ensures { MatchOption result ((bytes : List ℕ) → permits (pages_of entries.now bytes) address want ≡ false) (λ page.
+            (page.number ≡ page_of address) × Serves entries.now want page.number page.above) }
+    {
+        let place = granting(entries, address, want)?;
+        let number = address / PAGE_BYTES;
+        Some(LastPage {
+            number,
+            above: PAGE_BYTES * (number - place as u64),
+        })
+    }
+
+    /// Turns to the page of an address, unless it is that already, and says whether an access of this kind is let through there.
+    #[inline(always)]
+    fn turn_to(&mut self, entries: &[PageEntry], address: u64, want: Want) -> bool
+        requires rising { IsRising entries.now }
+        requires serves { Serves entries.now want self.old.number self.old.above }
+        ensures serves { Serves entries.now want self.new.number self.new.above }
+        ensures turned { result ≡ true → self.new.number ≡ page_of address }
+        ensures denied { result ≡ false → (bytes : List ℕ) → permits (pages_of entries.now bytes) address want ≡ false }
+    {
+        if address / PAGE_BYTES == self.number {
+            return true;
+        }
+        let Some(page) = LastPage::of(entries, address, want) else {
+            return false;
+        };
+        *self = page;
+        true
+    }
+
+    /// The index of the byte at an address, where an access of this kind is let through. Its page then is the last of its kind.
+    #[inline(always)]
+    fn granted_index(&mut self, entries: &[PageEntry], address: u64, want: Want) -> Option<usize>
+        requires rising { IsRising entries.now }
+        requires serves { Serves entries.now want self.old.number self.old.above }
+        ensures serves { Serves entries.now want self.new.number self.new.above }
+        ensures index { MatchOption result ((bytes : List ℕ) → permits (pages_of entries.now bytes) address want ≡ false) (IsGrantedTo entries.now address want) }
+    {
+        if self.turn_to(entries, address, want) {
+            Some((address - self.above) as usize)
+        } else {
+            None
         }
     }
 }
@@ -61,9 +111,9 @@ impl Model for Memory {
 
     ghost invariant = { λ m. record {
       kept : IsKept m.entries.items m.bytes.items;
-      fetched : Serves m.entries.items want.Fetch m.fetched.number m.fetched.place;
-      loaded : Serves m.entries.items want.Load m.loaded.number m.loaded.place;
-      stored : Serves m.entries.items want.Store m.stored.number m.stored.place;
+      fetched : Serves m.entries.items want.Fetch m.fetched.number m.fetched.above;
+      loaded : Serves m.entries.items want.Load m.loaded.number m.loaded.above;
+      stored : Serves m.entries.items want.Store m.stored.number m.stored.above;
     } };
 }
 
@@ -90,8 +140,10 @@ impl Memory {
         ensures word { MatchOption result (permits self.old address want.Fetch ≡ false) (λ word.
             (permits self.old address want.Fetch ≡ true) × (word ≡ from_little_endian (bytes_at self.old address 4))) }
     {
-        let place = place_in(&self.entries, &mut self.fetched, address, Want::Fetch)?;
-        Some(word_at(&self.bytes, index_of(place, address)))
+        let at = self
+            .fetched
+            .granted_index(&self.entries, address, Want::Fetch)?;
+        Some(word_at(&self.bytes, at))
     }
 
     /// The number that so many bytes from an address on are, least first; `None` exactly where they can't be read. The
@@ -104,8 +156,10 @@ impl Memory {
         ensures number { MatchOption result (permits self.old address want.Load ≡ false) (λ n.
             (permits self.old address want.Load ≡ true) × (n ≡ from_little_endian (bytes_at self.old address width))) }
     {
-        let place = place_in(&self.entries, &mut self.loaded, address, Want::Load)?;
-        Some(number_of_width(&self.bytes, index_of(place, address), width))
+        let at = self
+            .loaded
+            .granted_index(&self.entries, address, Want::Load)?;
+        Some(number_of_width(&self.bytes, at, width))
     }
 
     /// Whether an access is let through at an address.
@@ -116,9 +170,9 @@ impl Memory {
     {
         let entries = &self.entries;
         match want {
-            Want::Fetch => place_in(entries, &mut self.fetched, address, want).is_some(),
-            Want::Load => place_in(entries, &mut self.loaded, address, want).is_some(),
-            Want::Store => place_in(entries, &mut self.stored, address, want).is_some(),
+            Want::Fetch => self.fetched.granted_index(entries, address, want).is_some(),
+            Want::Load => self.loaded.granted_index(entries, address, want).is_some(),
+            Want::Store => self.stored.granted_index(entries, address, want).is_some(),
         }
     }
 
@@ -131,10 +185,13 @@ impl Memory {
         ensures stored { result ≡ permits self.old address want.Store }
         ensures memory { self.new ≡ (if result then put_bytes self.old address (little_endian width value) else self.old) }
     {
-        let Some(place) = place_in(&self.entries, &mut self.stored, address, Want::Store) else {
+        let Some(at) = self
+            .stored
+            .granted_index(&self.entries, address, Want::Store)
+        else {
             return false;
         };
-        put_of_width(&mut self.bytes, index_of(place, address), width, value);
+        put_of_width(&mut self.bytes, at, width, value);
         true
     }
 
@@ -271,83 +328,27 @@ fn put_of_width(bytes: &mut [u8], at: usize, width: u64, value: u64)
     ensures { bytes.new ≡ take at bytes.old ++ (little_endian width value ++ drop (at + width) bytes.old) }
 {
     match width {
-        1 => put_byte(bytes, at, value),
-        2 => put_half(bytes, at, value),
-        4 => put_word(bytes, at, value),
-        _ => put_double(bytes, at, value),
+        1 => put_low::<1>(bytes, at, value),
+        2 => put_low::<2>(bytes, at, value),
+        4 => put_low::<4>(bytes, at, value),
+        _ => put_low::<8>(bytes, at, value),
     }
 }
 
-/// Puts the low byte of a number at an index.
+/// Puts the N low bytes of a number from an index on, least first.
 #[inline(always)]
-fn put_byte(bytes: &mut [u8], at: usize, value: u64)
-    requires within { at + 1 ≤ length bytes.old }
-    ensures { bytes.new ≡ take at bytes.old ++ (little_endian 1 value ++ drop (at + 1) bytes.old) }
+fn put_low<const N: usize>(bytes: &mut [u8], at: usize, value: u64)
+    requires count { N ≤ 8 }
+    requires within { at + N ≤ length bytes.old }
+    ensures { bytes.new ≡ take at bytes.old ++ (little_endian N value ++ drop (at + N) bytes.old) }
 {
-    let value = value.to_le_bytes();
-    bytes[at] = value[0];
-}
-
-/// Puts its two low bytes.
-#[inline(always)]
-fn put_half(bytes: &mut [u8], at: usize, value: u64)
-    requires within { at + 2 ≤ length bytes.old }
-    ensures { bytes.new ≡ take at bytes.old ++ (little_endian 2 value ++ drop (at + 2) bytes.old) }
-{
-    let value = value.to_le_bytes();
-    bytes[at] = value[0];
-    bytes[at + 1] = value[1];
-}
-
-/// Puts its four low bytes.
-#[inline(always)]
-fn put_word(bytes: &mut [u8], at: usize, value: u64)
-    requires within { at + 4 ≤ length bytes.old }
-    ensures { bytes.new ≡ take at bytes.old ++ (little_endian 4 value ++ drop (at + 4) bytes.old) }
-{
-    let value = value.to_le_bytes();
-    bytes[at] = value[0];
-    bytes[at + 1] = value[1];
-    bytes[at + 2] = value[2];
-    bytes[at + 3] = value[3];
-}
-
-/// Puts its eight bytes.
-#[inline(always)]
-fn put_double(bytes: &mut [u8], at: usize, value: u64)
-    requires within { at + 8 ≤ length bytes.old }
-    ensures { bytes.new ≡ take at bytes.old ++ (little_endian 8 value ++ drop (at + 8) bytes.old) }
-{
-    let value = value.to_le_bytes();
-    bytes[at] = value[0];
-    bytes[at + 1] = value[1];
-    bytes[at + 2] = value[2];
-    bytes[at + 3] = value[3];
-    bytes[at + 4] = value[4];
-    bytes[at + 5] = value[5];
-    bytes[at + 6] = value[6];
-    bytes[at + 7] = value[7];
-}
-
-/// The place of an address's page, where an access of this kind is let through, which then is the last of its kind.
-#[inline(always)]
-fn place_in(entries: &[PageEntry], last: &mut LastPage, address: u64, want: Want) -> Option<usize>
-    requires rising { IsRising entries.now }
-    requires serves { Serves entries.now want last.old.number last.old.place }
-    ensures serves { Serves entries.now want last.new.number last.new.place }
-    ensures place { MatchOption result ((bytes : List ℕ) → permits (pages_of entries.now bytes) address want ≡ false) (IsGrantedAt entries.now address want) }
-{
-    let number = address / PAGE_BYTES;
-    if number == last.number {
-        return Some(last.place);
+    let low = value.to_le_bytes();
+    for k in 0..N {
+        bytes[at + k] = low[k];
     }
-    let place = granting(entries, address, want)?;
-    *last = LastPage { number, place };
-    Some(place)
 }
 
 /// The place of an address's page, where an access of this kind is let through.
-#[inline(never)]
 fn granting(entries: &[PageEntry], address: u64, want: Want) -> Option<usize>
     requires { IsRising entries.now }
     ensures { MatchOption result ((bytes : List ℕ) → permits (pages_of entries.now bytes) address want ≡ false) (IsGrantedAt entries.now address want) }

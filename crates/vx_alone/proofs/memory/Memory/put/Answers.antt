@@ -16,16 +16,16 @@ returns-clause-memory c =
     let address = c.args.address in
     let width = c.args.width in
     let values = little_endian width c.args.value in
-    let granted = rw c.deref.ensures.value at c.in-Some.ensures.place in
-    let place = granted.place in
-    let k = c.in-Some.place in
+    let granted = rw c.deref.ensures.value at c.in-Some.ensures.index in
+    let place = granted.granted.place in
+    let k = granted.place in
     let within = place.within in
     let whole : length bytes ≡ 4096 * length entries = c.self.invariant.kept.whole in
     let room = ends_on_page width address c.requires.width c.requires.aligned c.ranges.address.fits in
     let count : length values ≡ width = length-little_endian width c.args.value in
     let put = put_on_page entries c.self.invariant.kept.rising (page_of address) k place values bytes (address % 4096) address (omega arith) (omega (arith, room.0, count)) (omega (arith, room.1, count)) (omega (arith, room.0, count)) in
     let written : c.put_of_width.new.bytes ≡ take (4096 * k + address % 4096) bytes ++ (values ++ drop (4096 * k + address % 4096 + length values) bytes) =
-    rw (count, sym c.index_of.ensures, sym c.deref_mut.ensures.value) c.put_of_width.ensures in
+    rw (count, sym granted.byte, sym c.deref_mut.ensures.value) c.put_of_width.ensures in
     let kept : length c.put_of_width.new.bytes ≡ vec_len c.self.inside.bytes = omega (arith, c.put_of_width.auto.bytes, c.deref_mut.ensures.len) in
     ap (λ (bs : List ℕ). pages_of entries bs) (with_items_is c.self.inside.bytes c.put_of_width.new.bytes kept ∙ written)
     ∙ sym put
