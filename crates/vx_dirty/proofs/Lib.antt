@@ -1,0 +1,13 @@
+pub mod Chains
+pub mod Entries
+pub mod Fates
+pub mod Fetches
+pub mod Happens
+pub mod Instructions
+pub mod Lists
+pub mod Moves
+pub mod Pages
+pub mod Ranges
+pub mod Times
+pub mod Walks
+pub mod Whole
