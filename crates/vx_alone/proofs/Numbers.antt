@@ -1,8 +1,21 @@
 -- Numbers and their bytes, least first.
-use Rattle.std.proofs.Common.{◌≡◌, ℕ, zero, suc, ◌+◌, ◌/◌, ◌%◌, ◌<◌, ◌≤◌, List, [], ◌∷◌, ◌++◌, length, get_or, take, drop, set, refl, sym, ap, ◌∙◌, append_assoc, take-append-drop, add-zero, arith}
-use Rattle.std.proofs.lemmas.List.{append-nil, drop-drop, drop-set-lt, take_more, take_more_set}
-use Rattle.std.specs.Int.{to_le_bytes, w64}
-use Rattle.vx_base.specs.Numbers.{little_endian}
+use Rattle.std.proofs.Common.{◌≡◌, ℕ, zero, suc, ◌+◌, ◌/◌, ◌%◌, ◌<◌, ◌≤◌, List, [], ◌∷◌, ◌++◌, length, length-drop, get_or, take, take_all, drop, set, refl, sym, ap, ◌∙◌, append_assoc, take-append-drop, add-zero, arith}
+use Rattle.std.proofs.lemmas.List.{append-nil, drop-drop, drop-set-lt, get_or-drop, take_more, take_more_set}
+use Rattle.std.specs.Int.{from_le_bytes, to_le_bytes, w16, w32, w64}
+use Rattle.vx_base.specs.Numbers.{from_little_endian, little_endian}
+
+-- two, four and eight bytes are read as the number that they are
+pub from_two : (xs : List ℕ) → length xs ≡ 2 → from_le_bytes w16 xs ≡ from_little_endian xs
+from_two (a ∷ b ∷ []) long = omega arith
+from_two other long = absurd (omega (arith, long))
+
+pub from_four : (xs : List ℕ) → length xs ≡ 4 → from_le_bytes w32 xs ≡ from_little_endian xs
+from_four (a ∷ b ∷ c ∷ d ∷ []) long = omega arith
+from_four other long = absurd (omega (arith, long))
+
+pub from_eight : (xs : List ℕ) → length xs ≡ 8 → from_le_bytes w64 xs ≡ from_little_endian xs
+from_eight (a ∷ b ∷ c ∷ d ∷ e ∷ f ∷ g ∷ h ∷ []) long = omega arith
+from_eight other long = absurd (omega (arith, long))
 
 -- the first bytes of more of a number's bytes
 take-little_endian : (n k value : ℕ) → n ≤ k → take n (little_endian k value) ≡ little_endian n value
@@ -70,3 +83,17 @@ all_put old values new i n put =
     sym (take-append-drop (i + n) new)
     ∙ (λ j. put.front j ++ put.behind j)
     ∙ append_assoc (take i old) (take n values) (drop (i + n) old)
+
+-- the first bytes of an array are those from an index on, and one more is
+pub more_taken : (bytes array : List ℕ) (i k : ℕ) → i + k < length bytes → k < length array → take k array ≡ take k (drop i bytes) → take (k + 1) (set array k (get_or bytes (i + k) 0)) ≡ take (k + 1) (drop i bytes)
+more_taken bytes array i k within some same =
+    take_more_set array k (get_or bytes (i + k) 0) some
+    ∙ (λ j. same j ++ sym (get_or-drop i bytes k 0) j ∷ [])
+    ∙ sym (take_more (drop i bytes) k 0 (omega (arith, length-drop i bytes)))
+
+pub all_taken : (bytes array : List ℕ) (i k n : ℕ) → length array ≡ n → k ≡ n → take k array ≡ take k (drop i bytes) → array ≡ take n (drop i bytes)
+all_taken bytes array i k n long through same =
+    sym (take_all n array (omega (arith, long)))
+    ∙ ap (λ (m : ℕ). take m array) (sym through)
+    ∙ same
+    ∙ ap (λ (m : ℕ). take m (drop i bytes)) through

@@ -38,47 +38,49 @@ impl LastPage {
         }
     }
 
-    /// The page of an address, where an access of this kind is let through.
+    /// Turns to the page of an address, where an access of this kind is let through, and says whether it is. It takes the entries as they are
+    /// kept, so that a caller that needs no look-up doesn't read where they stand.
     #[inline(never)]
-    fn of(entries: &[PageEntry], address: u64, want: Want) -> Option<LastPage>
-        requires { IsRising entries.now }
-        ensures { MatchOption result ((bytes : List ℕ) → permits (pages_of entries.now bytes) address want ≡ false) (λ page.
-            (page.number ≡ page_of address) × Serves entries.now want page.number page.above) }
+    fn look_up(&mut self, entries: &Vec<PageEntry>, address: u64, want: Want) -> bool
+        requires rising { IsRising entries.now.items }
+        requires serves { Serves entries.now.items want self.old.number self.old.above }
+        ensures serves { Serves entries.now.items want self.new.number self.new.above }
+        ensures turned { result ≡ true → self.new.number ≡ page_of address }
+        ensures denied { result ≡ false → (bytes : List ℕ) → permits (pages_of entries.now.items bytes) address want ≡ false }
     {
-        let place = granting(entries, address, want)?;
+        let Some(place) = granting(entries, address, want) else {
+            return false;
+        };
         let number = address / PAGE_BYTES;
-        Some(LastPage {
+        *self = LastPage {
             number,
             above: PAGE_BYTES * (number - place as u64),
-        })
+        };
+        true
     }
 
-    /// Turns to the page of an address, unless it is that already, and says whether an access of this kind is let through there.
+    /// The same, without a look-up where it is that page already.
     #[inline(always)]
-    fn turn_to(&mut self, entries: &[PageEntry], address: u64, want: Want) -> bool
-        requires rising { IsRising entries.now }
-        requires serves { Serves entries.now want self.old.number self.old.above }
-        ensures serves { Serves entries.now want self.new.number self.new.above }
+    fn turn_to(&mut self, entries: &Vec<PageEntry>, address: u64, want: Want) -> bool
+        requires rising { IsRising entries.now.items }
+        requires serves { Serves entries.now.items want self.old.number self.old.above }
+        ensures serves { Serves entries.now.items want self.new.number self.new.above }
         ensures turned { result ≡ true → self.new.number ≡ page_of address }
-        ensures denied { result ≡ false → (bytes : List ℕ) → permits (pages_of entries.now bytes) address want ≡ false }
+        ensures denied { result ≡ false → (bytes : List ℕ) → permits (pages_of entries.now.items bytes) address want ≡ false }
     {
         if address / PAGE_BYTES == self.number {
             return true;
         }
-        let Some(page) = LastPage::of(entries, address, want) else {
-            return false;
-        };
-        *self = page;
-        true
+        self.look_up(entries, address, want)
     }
 
     /// The index of the byte at an address, where an access of this kind is let through. Its page then is the last of its kind.
     #[inline(always)]
-    fn granted_index(&mut self, entries: &[PageEntry], address: u64, want: Want) -> Option<usize>
-        requires rising { IsRising entries.now }
-        requires serves { Serves entries.now want self.old.number self.old.above }
-        ensures serves { Serves entries.now want self.new.number self.new.above }
-        ensures index { MatchOption result ((bytes : List ℕ) → permits (pages_of entries.now bytes) address want ≡ false) (IsGrantedTo entries.now address want) }
+    fn granted_index(&mut self, entries: &Vec<PageEntry>, address: u64, want: Want) -> Option<usize>
+        requires rising { IsRising entries.now.items }
+        requires serves { Serves entries.now.items want self.old.number self.old.above }
+        ensures serves { Serves entries.now.items want self.new.number self.new.above }
+        ensures index { MatchOption result ((bytes : List ℕ) → permits (pages_of entries.now.items bytes) address want ≡ false) (IsGrantedTo entries.now.items address want) }
     {
         if self.turn_to(entries, address, want) {
             Some((address - self.above) as usize)
@@ -268,13 +270,26 @@ fn index_of(place: usize, address: u64) -> usize
     PAGE_LEN * place + (address % PAGE_BYTES) as usize
 }
 
-/// The word that four bytes from an index on are, least first. LLVM reads them at once.
+/// The N bytes from an index on. LLVM reads them at once.
+#[inline(always)]
+fn array_at<const N: usize>(bytes: &[u8], at: usize) -> [u8; N]
+    requires within { at + N ≤ length bytes.now }
+    ensures { result ≡ take N (drop at bytes.now) }
+{
+    let mut array = [0; N];
+    for k in 0..N {
+        array[k] = bytes[at + k];
+    }
+    array
+}
+
+/// The word that four bytes from an index on are, least first.
 #[inline(always)]
 fn word_at(bytes: &[u8], at: usize) -> u32
     requires within { at + 4 ≤ length bytes.now }
     ensures { result ≡ from_little_endian (take 4 (drop at bytes.now)) }
 {
-    u32::from_le_bytes([bytes[at], bytes[at + 1], bytes[at + 2], bytes[at + 3]])
+    u32::from_le_bytes(array_at(bytes, at))
 }
 
 /// The number that eight bytes from an index on are, least first.
@@ -283,16 +298,7 @@ fn double_at(bytes: &[u8], at: usize) -> u64
     requires within { at + 8 ≤ length bytes.now }
     ensures { result ≡ from_little_endian (take 8 (drop at bytes.now)) }
 {
-    u64::from_le_bytes([
-        bytes[at],
-        bytes[at + 1],
-        bytes[at + 2],
-        bytes[at + 3],
-        bytes[at + 4],
-        bytes[at + 5],
-        bytes[at + 6],
-        bytes[at + 7],
-    ])
+    u64::from_le_bytes(array_at(bytes, at))
 }
 
 /// The number that two bytes from an index on are, least first.
@@ -301,7 +307,7 @@ fn half_at(bytes: &[u8], at: usize) -> u16
     requires within { at + 2 ≤ length bytes.now }
     ensures { result ≡ from_little_endian (take 2 (drop at bytes.now)) }
 {
-    u16::from_le_bytes([bytes[at], bytes[at + 1]])
+    u16::from_le_bytes(array_at(bytes, at))
 }
 
 /// The number that so many bytes from an index on are, least first.

@@ -12,7 +12,7 @@ returns-clause-word c =
     let entries = c.self.inside.entries.items in
     let bytes = c.self.inside.bytes.items in
     let address = c.args.address in
-    let granted = rw c.deref.ensures.value at c.in_ok-at.ensures.index in
+    let granted = c.in_ok-at.ensures.index in
     let place = granted.granted.place in
     let k = granted.place in
     let within = place.within in
@@ -20,7 +20,7 @@ returns-clause-word c =
     let room = ends_on_page 4 address refl c.requires c.ranges.address.fits in
     let read = bytes_on_page entries c.self.invariant.kept.rising bytes (page_of address) k place 4 (address % 4096) address (omega arith) room.0 room.1 (omega (arith, room.0)) in
     let value : c.word_at.result ≡ from_little_endian (take 4 (drop (4096 * k + address % 4096) bytes)) =
-    c.word_at.ensures ∙ ap (λ (bs : List ℕ). from_little_endian (take 4 (drop c.in_ok-at.at bs))) c.deref-2.ensures.value
+    c.word_at.ensures ∙ ap (λ (bs : List ℕ). from_little_endian (take 4 (drop c.in_ok-at.at bs))) c.deref.ensures.value
     ∙ ap (λ (i : ℕ). from_little_endian (take 4 (drop i bytes))) granted.byte in (
       ap (λ (m : Memory). permits m address Fetch) (sym c.self.view_is) ∙ granted.granted.permitted bytes,
       value ∙ ap from_little_endian (sym read) ∙ ap (λ (m : Memory). from_little_endian (bytes_at m address 4)) c.self.view_is,

@@ -13,7 +13,7 @@ returns-clause-number c =
     let bytes = c.self.inside.bytes.items in
     let address = c.args.address in
     let width = c.args.width in
-    let granted = rw c.deref.ensures.value at c.in_ok-at.ensures.index in
+    let granted = c.in_ok-at.ensures.index in
     let place = granted.granted.place in
     let k = granted.place in
     let within = place.within in
@@ -21,7 +21,7 @@ returns-clause-number c =
     let room = ends_on_page width address c.requires.width c.requires.aligned c.ranges.address.fits in
     let read = bytes_on_page entries c.self.invariant.kept.rising bytes (page_of address) k place width (address % 4096) address (omega arith) room.0 room.1 (omega (arith, room.0)) in
     let value : c.number_of_width.result ≡ from_little_endian (take width (drop (4096 * k + address % 4096) bytes)) =
-    c.number_of_width.ensures ∙ ap (λ (bs : List ℕ). from_little_endian (take width (drop c.in_ok-at.at bs))) c.deref-2.ensures.value
+    c.number_of_width.ensures ∙ ap (λ (bs : List ℕ). from_little_endian (take width (drop c.in_ok-at.at bs))) c.deref.ensures.value
     ∙ ap (λ (i : ℕ). from_little_endian (take width (drop i bytes))) granted.byte in (
       ap (λ (m : Memory). permits m address Load) (sym c.self.view_is) ∙ granted.granted.permitted bytes,
       value ∙ ap from_little_endian (sym read) ∙ ap (λ (m : Memory). from_little_endian (bytes_at m address width)) c.self.view_is,
