@@ -1,5 +1,5 @@
 # The sum of the products of two lists of 20 numbers, as many at a time as vector registers hold, of whatever length they are. It
-# exits with 1 * 1 + 2 * 2 + .. + 20 * 20, 2870. It is for `vexec alone`.
+# exits with 1 * 1 + 2 * 2 + .. + 20 * 20, 2870.
         .text
 _start: la      a0, left
         la      a1, right
