@@ -3,7 +3,7 @@ ghost use Rattle.vx_base.specs.Numbers.{from_little_endian, little_endian};
 ghost use Rattle.vx_base.specs.declared.machine.Want.TheVariants as want;
 ghost use Rattle.vx_flat.specs.Memory.{bytes_at, all_permit, put_bytes};
 ghost use Rattle.vx_flat.specs.Service.{is_readable};
-ghost use Rattle.vx_image.specs.Pages.{permits, page_of, is_canonical};
+ghost use Rattle.vx_image.specs.Pages.{permits, page_of};
 ghost use Rattle.vx_image.specs.Kept.{pages_of, IsRising, IsPlaceOf, IsKept, Lacks};
 ghost use Rattle.vx_alone.specs.Granted.{IsGrantedAt, IsGrantedTo, Serves};
 ghost use Rattle.vx_scalar.specs.Operands.{is_access_width};
@@ -11,7 +11,7 @@ ghost use Rattle.vx_scalar.specs.Operands.{is_access_width};
 use std::alloc::{AllocError, Global};
 use std::marker::Model;
 use vx_base::{PageEntry, Want};
-use vx_image::{Image, place_of};
+use vx_image::{Image, count_on_page, is_canonical, place_of};
 
 /// How many bytes a page has.
 const PAGE_LEN: usize = 4096;
@@ -254,13 +254,6 @@ fn append_readable(entries: &[PageEntry], bytes: &[u8], address: u64, count: u64
     }
 }
 
-/// How many of so many bytes from an address on lie on its page.
-fn count_on_page(address: u64, count: u64) -> u64
-    ensures { result ≡ min count (4096 - address % 4096) }
-{
-    count.min(PAGE_BYTES - address % PAGE_BYTES)
-}
-
 /// The index of the byte at an address of the page at a place.
 #[inline(always)]
 fn index_of(place: usize, address: u64) -> usize
@@ -370,15 +363,6 @@ fn granting(entries: &[PageEntry], address: u64, want: Want) -> Option<usize>
     } else {
         None
     }
-}
-
-/// Whether bits 63 to 39 of an address equal bit 38.
-#[inline(always)]
-fn is_canonical(address: u64) -> bool
-    ensures { result ≡ is_canonical address }
-{
-    let top = address >> 38;
-    top == 0 || top == (1 << 26) - 1
 }
 
 #[cfg(test)]

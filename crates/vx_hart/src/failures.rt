@@ -10,8 +10,8 @@ ghost use Rattle.vx_vaddr.specs.Items.{accesses_of_items};
 ghost use Rattle.vx_vector.specs.Accesses.{Access};
 
 use crate::memory::Memory;
-use crate::scalars::is_aligned;
 use vx_base::Want;
+use vx_image::is_aligned;
 use vx_vaddr::Item;
 
 /// An access that fails, and the cause for which it does.

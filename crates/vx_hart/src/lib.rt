@@ -30,5 +30,7 @@ pub use direction::Direction;
 pub use executor::Executor;
 pub use finding::{Found, find};
 pub use memory::Memory;
+pub use operands::change_in;
 pub use progress::{Advance, Progress};
 pub use service::serve;
+pub use vectors::writes;

@@ -18,23 +18,9 @@ use crate::progress::Progress;
 use vx_base::Fault;
 use vx_decode::Instr;
 use vx_flat::Effect;
+use vx_image::is_aligned;
 use vx_rows::{Op, ScalarOp};
 use vx_scalar::{access_width, loaded, scalar, scalar_address};
-
-/// Whether an address is a multiple of the width of an access.
-#[inline(always)]
-pub fn is_aligned(address: u64, width: u64) -> bool
-    requires { IsTrue (is_access_width width) }
-    ensures { result ≡ (address % width == 0) }
-{
-    match width {
-        1 => true,
-        2 => address % 2 == 0,
-        4 => address % 4 == 0,
-        8 => address % 8 == 0,
-        _ => address % width == 0,
-    }
-}
 
 /// An instruction faults, and that is the last fault from now on.
 pub fn fault(arch: &Arch, last: &mut Fault, cause: u8, tval: u64) -> Progress

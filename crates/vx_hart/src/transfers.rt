@@ -14,8 +14,8 @@ ghost use Rattle.vx_vstate.specs.Views.{view_of};
 
 use crate::failures::{Failed, failed_by, first_failing, misaligned, page_fault};
 use crate::memory::Memory;
-use crate::scalars::is_aligned;
 use vx_base::Want;
+use vx_image::is_aligned;
 use vx_rows::Addressing;
 use vx_vaddr::{AccessList, AccessPattern, Item, put_loaded, stored_value};
 use vx_vector::legal_movements_are_sound;

@@ -20,8 +20,8 @@ fn changed(change: Change, old: u64, operand: u64) -> u64
     }
 }
 
-/// Whether anything is written: no bits are set or cleared where the field `rs1` is 0.
-fn writes(change: Change, rs1: u8) -> bool
+/// Whether anything is written to a control register: no bits are set or cleared where the field `rs1` is 0.
+pub fn writes(change: Change, rs1: u8) -> bool
     ensures { result ≡ writes change rs1 }
 {
     match change {

@@ -12,11 +12,12 @@ ghost use Rattle.vx_tables.specs.Tables.{AreHeld};
 ghost use Rattle.vx_tables.specs.Walking.{HaveTables};
 ghost use Rattle.vx_tlb.specs.Kept.{StandsFor};
 
-use crate::pages::{PAGE_BYTES, is_away, is_canonical, walk_and_keep};
+use crate::pages::{PAGE_BYTES, is_away, walk_and_keep};
 use std::alloc::{AllocError, Global};
 use std::marker::Model;
 use vx_base::Want;
 use vx_cells::Cells;
+use vx_image::is_canonical;
 use vx_tables::Look;
 use vx_tlb::Tlb;
 

@@ -1,5 +1,5 @@
 ghost use Rattle.std.specs.Prelude.{◌≡◌, ◌==◌, ◌%◌, ◌<◌, ℕ, List};
-ghost use Rattle.vx_image.specs.Pages.{is_canonical, page_of};
+ghost use Rattle.vx_image.specs.Pages.{page_of};
 ghost use Rattle.vx_look.specs.Fetches.{is_away};
 ghost use Rattle.vx_look.specs.Filled.{IsFilled, IsFoundBelow};
 ghost use Rattle.vx_tables.specs.Caches.{Fill, filled_by};
@@ -16,30 +16,6 @@ use vx_walk::walk;
 
 /// How many bytes a page has.
 pub const PAGE_BYTES: u64 = 4096;
-
-/// Whether bits 63 to 39 of an address equal bit 38.
-#[inline(always)]
-pub fn is_canonical(address: u64) -> bool
-    ensures { result ≡ is_canonical address }
-{
-    let above = address >> 38;
-    above == 0 || above == (1 << 26) - 1
-}
-
-/// Whether an address is a multiple of the width of an access.
-#[inline(always)]
-pub fn is_aligned(address: u64, width: u64) -> bool
-    requires { 0 < width }
-    ensures { result ≡ (address % width == 0) }
-{
-    match width {
-        1 => true,
-        2 => address % 2 == 0,
-        4 => address % 4 == 0,
-        8 => address % 8 == 0,
-        _ => address % width == 0,
-    }
-}
 
 /// Whether a walk's page is away.
 pub fn is_away(walked: Walked) -> bool

@@ -12,6 +12,7 @@ use Rattle.vx_rows.specs.declared.family.Operand.TheVariants.{Absent, Single, Ma
 use Rattle.vx_rows.specs.declared.family.Operands.{Operands}
 use Rattle.vx_rows.specs.declared.row.First.{First}
 use Rattle.vx_rows.specs.declared.row.First.TheVariants.{Vector}
+use Rattle.vx_operands.specs.Forms.{is_vector}
 use Rattle.vx_operands.specs.declared.form.Form.{Form}
 use Rattle.vx_vstate.specs.Registers.{is_element_width, place_of, words_of_register, words_of_all}
 use Rattle.vx_vector.specs.Laws.{IsPlaced, IsSound, is_absent}
@@ -23,7 +24,7 @@ use Rattle.vx_operands.specs.Lanes.{answer, is_each}
 use Rattle.vx_operands.specs.Rising.{is_by_index, is_reduce}
 use Rattle.vx_operands.proofs.Places.{in_place, registers_small}
 use Rattle.vx_operands.proofs.Even.{words_of_group}
-use Rattle.vx_mask.specs.Kinds.{AreReduced, has_two, is_logic, is_span, is_even_reduction, is_wide_reduction, is_index, is_telling, is_vector, is_mask_form}
+use Rattle.vx_mask.specs.Kinds.{AreReduced, has_two, is_logic, is_span, is_even_reduction, is_wide_reduction, is_index, is_telling, is_mask_form}
 
 follows : (a b : Bool) → (not a || b) ≡ true → a ≡ true → b ≡ true
 follows true b h e = h

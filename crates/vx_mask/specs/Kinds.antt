@@ -7,8 +7,7 @@ use Rattle.vx_rows.specs.declared.family.Operand.TheVariants.{Single, Element, W
 use Rattle.vx_rows.specs.declared.family.Operands.{Operands}
 use Rattle.vx_rows.specs.declared.op.Op.{Op}
 use Rattle.vx_rows.specs.declared.op.Op.TheVariants.{Mask}
-use Rattle.vx_rows.specs.declared.row.First.{First}
-use Rattle.vx_rows.specs.declared.row.First.TheVariants.{Vector}
+use Rattle.vx_operands.specs.Forms.{is_vector}
 use Rattle.vx_operands.specs.declared.form.Form.{Form}
 
 -- an operation of this crate
@@ -68,10 +67,6 @@ is_telling other = false
 -- a register stands in the place of vs1
 abbrev pub has_two : Family → Bool
 has_two f = is_logic f || is_even_reduction f || is_wide_reduction f
-
-abbrev pub is_vector : First → Bool
-is_vector Vector = true
-is_vector other = false
 
 -- a form that a row of this crate has
 abbrev pub is_mask_form : Form → Bool

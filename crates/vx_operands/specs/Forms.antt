@@ -1,5 +1,5 @@
 -- What the table of rows says of an operation of vector arithmetic, and the reading of an instruction with it.
-use Rattle.std.specs.Prelude.{ℕ, Bool, List}
+use Rattle.std.specs.Prelude.{ℕ, Bool, true, false, List}
 use Rattle.vx_rows.specs.Table.{class_of, shape_of}
 use Rattle.vx_rows.specs.declared.family.Family.{Family}
 use Rattle.vx_rows.specs.declared.family.Family.TheVariants.{Vadd}
@@ -26,6 +26,11 @@ family_in other = Vadd
 abbrev pub first_in : Shape → First
 first_in (Vector first second vm) = first
 first_in other = first.Fixed
+
+-- a register stands in the place of vs1
+abbrev pub is_vector : First → Bool
+is_vector first.Vector = true
+is_vector other = false
 
 abbrev pub vm_in : Shape → Vm
 vm_in (Vector first second vm) = vm

@@ -64,7 +64,7 @@ fn second_number(form: Form, at: &Setting, regs: &Places) -> u64
 
 /// Whether the second operand is a group.
 #[inline(always)]
-fn is_group(first: First) -> bool
+pub fn is_group(first: First) -> bool
     ensures group { result ≡ true → first ≡ Vector }
     ensures other { result ≡ false → first ≡ Vector → ⊥ }
 {

@@ -25,7 +25,7 @@ pub use bits::{compared_word, merged_bits};
 pub use double::{doubled_word, make_doubled};
 pub use first::{first_set, writes_first};
 pub use form::{Form, form_with, is_unmasked};
-pub use full::{full_count, full_words, group_place, word_in};
+pub use full::{full_count, full_words, group_place, is_group, word_in};
 pub use grouped::{moved_word, whole_word, wide_word};
 pub use merged::{even_word, kept, merged_word};
 pub use moved_by::{moved_by_index, unchanged};

@@ -5,7 +5,7 @@ ghost use Rattle.vx_image.specs.Tables.{table_frames};
 ghost use Rattle.vx_paged.specs.Booting.{Boots, page_writes, word_in};
 ghost use Rattle.vx_paged.specs.Framed.{IsWithin, entries_of, shown};
 ghost use Rattle.vx_paged.specs.Left.{rest_of};
-ghost use Rattle.vx_tables.specs.Building.{kernel_write, kernel_writes};
+ghost use Rattle.vx_tables.specs.Building.{kernel_writes};
 
 use crate::laws::{pages_are_placed_in_turn, shown_memory_is_alike};
 use crate::placement::Placement;
@@ -14,7 +14,7 @@ use vx_cells::{Cells, Port, accesses_are_made_in_turn, words_are_merged_by_bytes
 use vx_image::Image;
 use vx_pending::nothing_else_differs;
 use vx_tables::pages_are_granted;
-use vx_walk::build_present;
+use vx_walk::{build_present, write_word};
 
 /// How many bytes a page has.
 const PAGE_LEN: usize = 4096;
@@ -60,15 +60,6 @@ fn write_page<C: Cells>(cells: &mut C, frame: u32, bytes: &[u8])
     for w in 0..FRAME_WORDS {
         write_word(cells, FRAME_WORDS * frame + w, word_at(bytes, w as usize));
     }
-}
-
-/// Writes a whole word.
-fn write_word<C: Cells>(cells: &mut C, word: u32, value: u64)
-    requires { word < 512 * (C.state cells.old).frames }
-    ensures { Makes (C.state cells.old) (C.state cells.new) (kernel_write (C.state cells.old).cycle word value ∷ []) }
-{
-    words_are_merged_by_bytes();
-    cells.write(Port::Kernel, word, value, u8::MAX);
 }
 
 /// Word `w` of these bytes.

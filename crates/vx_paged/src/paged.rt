@@ -5,7 +5,7 @@ ghost use Rattle.vx_base.specs.declared.machine.Want.TheVariants as want;
 ghost use Rattle.vx_cells.specs.Cells.{IsMemory, Makes};
 ghost use Rattle.vx_flat.specs.Memory.{bytes_at, all_permit, put_bytes};
 ghost use Rattle.vx_flat.specs.Service.{is_readable};
-ghost use Rattle.vx_image.specs.Pages.{permits, is_canonical};
+ghost use Rattle.vx_image.specs.Pages.{permits};
 ghost use Rattle.vx_paged.specs.Framed.{IsPlacement, bytes_from, framed, shown};
 ghost use Rattle.vx_paged.specs.Granted.{IsGrantedIn, Serves};
 ghost use Rattle.vx_paged.specs.Left.{Fits, rest_of};
@@ -17,6 +17,7 @@ use std::marker::Model;
 use vx_base::Want;
 use vx_cells::{Cells, Port, words_are_merged_by_bytes};
 use vx_hart::Memory;
+use vx_image::{count_on_page, is_canonical};
 
 /// How many bytes a page has, and a word.
 const PAGE_BYTES: u64 = 4096;
@@ -235,13 +236,6 @@ fn count_in_word(address: u64, count: u64) -> u64
     count.min(WORD_BYTES - address % WORD_BYTES)
 }
 
-/// How many of so many bytes from an address on lie on its page.
-fn count_on_page(address: u64, count: u64) -> u64
-    ensures { result ≡ min count (4096 - address % 4096) }
-{
-    count.min(PAGE_BYTES - address % PAGE_BYTES)
-}
-
 /// The frame of an address's page, where an access of this kind is let through, which then is the last of its kind.
 #[inline(always)]
 fn frame_in(pages: &[FramedPage], last: &mut LastPage, address: u64, want: Want) -> Option<u32>
@@ -287,13 +281,4 @@ fn page_numbered(pages: &[FramedPage], number: u64) -> Option<FramedPage>
         Ok(place) => Some(pages[place]),
         Err(_) => None,
     }
-}
-
-/// Whether bits 63 to 39 of an address equal bit 38.
-#[inline(always)]
-fn is_canonical(address: u64) -> bool
-    ensures { result ≡ is_canonical address }
-{
-    let top = address >> 38;
-    top == 0 || top == (1 << 26) - 1
 }

@@ -5,6 +5,7 @@ ghost use Rattle.vx_paged.specs.Framed.{IsPlacement, framed, in_turn};
 use std::alloc::{AllocError, Global};
 use std::marker::Model;
 use vx_base::{PageEntry, PageList};
+use vx_walk::entry_at;
 
 /// A mapped page, and the frame that it is in.
 #[derive(Clone, Copy, PartialEq, Eq, Debug)]
@@ -64,16 +65,5 @@ impl Placement {
     {
         let Placement { pages } = self;
         pages
-    }
-}
-
-/// The page at an index.
-fn entry_at(pages: &PageList, index: usize) -> PageEntry
-    requires { index < length pages.now }
-    ensures { (d : PageEntry) → result ≡ slice_index_or pages.now index d }
-{
-    match pages.get(index) {
-        Some(entry) => *entry,
-        None => unreachable!(),
     }
 }

@@ -15,6 +15,7 @@ use Rattle.vx_rows.specs.declared.family.Operand.{Operand}
 use Rattle.vx_rows.specs.declared.family.Operand.TheVariants.{Single, Mask}
 use Rattle.vx_rows.specs.declared.row.First.{First}
 use Rattle.vx_rows.specs.declared.row.First.TheVariants.{Vector}
+use Rattle.vx_operands.specs.Forms.{is_vector}
 use Rattle.vx_operands.specs.declared.form.Form.{Form}
 use Rattle.vx_vstate.specs.Registers.{element_word, is_element_width, place_of, words_of_all, word_at}
 use Rattle.vx_vstate.specs.State.{IsSetting}
@@ -32,7 +33,7 @@ use Rattle.vx_operands.proofs.Even.{vl-le, vs1_is}
 use Rattle.vx_operands.proofs.ByIndex.{Lanes, quiet, is_below, not_below, one_lane}
 use Rattle.vx_operands.proofs.Merging.{Same}
 use Rattle.vx_operands.proofs.Counts.{count_zero, count_sum, count_alike, count_front, count_most, count_more, chosen_below, chosen_more, chosen_long}
-use Rattle.vx_perm.specs.Kinds.{IsIndexed, IsPassed, chooses, is_gather, is_move, is_slide, is_pack, is_put, is_perm_form, is_vector}
+use Rattle.vx_perm.specs.Kinds.{IsIndexed, IsPassed, chooses, is_gather, is_move, is_slide, is_pack, is_put, is_perm_form}
 use Rattle.vx_perm.specs.declared.packs.Passed.{Passed}
 
 follows : (a b : Bool) → (not a || b) ≡ true → a ≡ true → b ≡ true

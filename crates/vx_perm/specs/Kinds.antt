@@ -4,9 +4,8 @@ use Rattle.vx_rows.specs.declared.family.Family.{Family}
 use Rattle.vx_rows.specs.declared.family.Family.TheVariants.{Vrgather, Vrgatherei16, Vslideup, Vslidedown, Vslide1up, Vslide1down, VmvSX, Vcompress}
 use Rattle.vx_rows.specs.declared.op.Op.{Op}
 use Rattle.vx_rows.specs.declared.op.Op.TheVariants.{Perm}
-use Rattle.vx_rows.specs.declared.row.First.{First}
-use Rattle.vx_rows.specs.declared.row.First.TheVariants.{Vector}
 use Rattle.vx_operands.specs.Rising.{count_below, moved_by}
+use Rattle.vx_operands.specs.Forms.{is_vector}
 use Rattle.vx_operands.specs.declared.form.Form.{Form}
 use Rattle.vx_perm.specs.declared.packs.Passed.{Passed}
 use Rattle.vx_vector.specs.Lists.{element_or_zero}
@@ -45,10 +44,6 @@ is_pack other = false
 abbrev pub is_put : Family → Bool
 is_put VmvSX = true
 is_put other = false
-
-abbrev pub is_vector : First → Bool
-is_vector Vector = true
-is_vector other = false
 
 -- a form that a row of this crate has
 abbrev pub is_perm_form : Form → Bool

@@ -17,23 +17,11 @@ ghost use Rattle.vx_vstate.specs.Vtype.{vlmax};
 
 use crate::elements::number;
 use vx_bits::low;
-use vx_operands::{Form, full_count, group_place, has_few_elements, lane_at, word_in};
+use vx_operands::{Form, full_count, group_place, has_few_elements, is_group, lane_at, word_in};
 use vx_packed::{beside, joined_by_elements, splat};
 use vx_rows::{Family, First};
 use vx_vector::{Places, elements_are_lanes, words_are_made};
 use vx_vstate::Setting;
-
-/// Whether the indices stand in a register.
-#[inline(always)]
-fn is_group(first: First) -> bool
-    ensures group { result ≡ true → first ≡ Vector }
-    ensures other { result ≡ false → first ≡ Vector → ⊥ }
-{
-    match first {
-        First::Vector => true,
-        _ => false,
-    }
-}
 
 /// Element `i` of a width of the group whose words begin at a place.
 #[inline(always)]

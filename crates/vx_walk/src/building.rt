@@ -24,7 +24,7 @@ const MIB2: u64 = 1 << 9;
 const FRAME_WORDS: u32 = 512;
 
 /// The page at an index.
-fn entry_at(pages: &PageList, index: usize) -> PageEntry
+pub fn entry_at(pages: &PageList, index: usize) -> PageEntry
     requires { index < length pages.now }
     ensures { (d : PageEntry) → result ≡ slice_index_or pages.now index d }
 {
@@ -98,8 +98,8 @@ fn frame_behind(frame: Option<u32>, index: usize) -> Option<u32>
     }
 }
 
-/// Writes a whole word.
-fn write_word<C: Cells>(cells: &mut C, word: u32, value: u64)
+/// Writes a whole word, as the kernel.
+pub fn write_word<C: Cells>(cells: &mut C, word: u32, value: u64)
     requires { word < 512 * (C.state cells.old).frames }
     ensures { Makes (C.state cells.old) (C.state cells.new) (kernel_write (C.state cells.old).cycle word value ∷ []) }
 {

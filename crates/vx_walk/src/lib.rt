@@ -12,7 +12,7 @@ mod tests;
 mod walker;
 mod whole;
 
-pub use building::{build, build_present};
+pub use building::{build, build_present, entry_at, write_word};
 pub use vx_tables::Walked;
 pub use walker::Walker;
 pub use whole::walk;

@@ -6,7 +6,6 @@ ghost use Rattle.vx_tables.specs.Entries.{frame_in};
 ghost use Rattle.vx_tables.specs.Residency.{Residency, pages_of};
 ghost use Rattle.vx_tables.specs.Tables.{AreHeld};
 ghost use Rattle.vx_tables.specs.Walking.{first_stage, stage_behind, stage_after, Agree, CanTick, CanWrite, IsOfLevels, IsWalk, Ticks, WalkTicks};
-ghost use Rattle.vx_image.specs.Pages.{is_canonical};
 ghost use Rattle.vx_tables.specs.Walks.{entry_word, written_entry};
 ghost use Rattle.vx_tables.specs.declared.stage.TableEntry.{TableEntry};
 
@@ -14,6 +13,7 @@ use crate::entry::{frame_of, is_pointer, leaf_answer, leaf_written};
 use std::marker::Model;
 use vx_base::Want;
 use vx_cells::{Cells, Port, words_are_merged_by_bytes};
+use vx_image::is_canonical;
 use vx_tables::{Stage, TableEntry, Walked, steps_follow_the_tables};
 
 /// A walk of the page tables on its way, one access after another.
@@ -33,14 +33,6 @@ impl Model for Walker {
     ghost view = { λ w. record { address = w.address; want = w.want; port = w.port; stage = w.stage } };
 
     ghost invariant = { λ w. IsOfLevels w.stage };
-}
-
-/// Whether bits 63 to 39 of an address equal bit 38.
-fn is_canonical(address: u64) -> bool
-    ensures { result ≡ is_canonical address }
-{
-    let above = address >> 38;
-    above == 0 || above == (1 << 26) - 1
 }
 
 /// The word of the entry for an address in the table in a frame.

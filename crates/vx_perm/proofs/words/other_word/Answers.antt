@@ -1,6 +1,6 @@
 -- A row that packs has its mask in the place of vs1; any other puts element 0.
 use Rattle.std.proofs.Common.{sym, ◌∙◌}
-use Rattle.vx_perm.specs.Kinds.{is_vector}
+use Rattle.vx_operands.specs.Forms.{is_vector}
 use Rattle.vx_perm.proofs.Facts.{pack_family, put_family, pack_registers}
 use Rattle.vx_perm.proofs.words.other_word.Goals as goal
 
