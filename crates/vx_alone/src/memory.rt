@@ -1,10 +1,10 @@
-ghost use Rattle.std.specs.Prelude.{◌≡◌, ℕ, ◌+◌, ◌-◌, ◌*◌, ◌<◌, ◌≤◌, ◌%◌, ◌^◌, ◌++◌, List, take, drop, length, min, true, false, None, IfOk, IsTrue, MatchOption, vec_len, vec_capacity, if◌then◌else◌};
+ghost use Rattle.std.specs.Prelude.{◌≡◌, ℕ, ◌+◌, ◌-◌, ◌*◌, ◌<◌, ◌≤◌, ◌%◌, ◌^◌, ◌++◌, List, take, drop, length, true, false, None, IfOk, IsTrue, MatchOption, vec_len, vec_capacity, if◌then◌else◌};
 ghost use Rattle.vx_base.specs.Numbers.{from_little_endian, little_endian};
 ghost use Rattle.vx_base.specs.declared.machine.Want.TheVariants as want;
 ghost use Rattle.vx_flat.specs.Memory.{bytes_at, all_permit, put_bytes};
 ghost use Rattle.vx_flat.specs.Service.{is_readable};
 ghost use Rattle.vx_image.specs.Pages.{permits, page_of};
-ghost use Rattle.vx_image.specs.Kept.{pages_of, IsRising, IsPlaceOf, IsKept, Lacks};
+ghost use Rattle.vx_image.specs.Kept.{pages_of, IsRising, IsKept};
 ghost use Rattle.vx_alone.specs.Granted.{IsGrantedAt, IsGrantedTo, Serves};
 ghost use Rattle.vx_scalar.specs.Operands.{is_access_width};
 

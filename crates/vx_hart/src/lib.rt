@@ -8,7 +8,6 @@
 
 mod arch;
 mod arithmetic;
-mod asking;
 mod controls;
 mod direction;
 mod executor;
@@ -25,7 +24,6 @@ mod transfers;
 mod vectors;
 
 pub use arch::Arch;
-pub use asking::asks;
 pub use direction::Direction;
 pub use executor::Executor;
 pub use finding::{Found, find};

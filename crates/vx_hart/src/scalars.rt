@@ -1,6 +1,6 @@
 //! Instructions that touch no vector: each goes by its definition over any memory.
 
-ghost use Rattle.std.specs.Prelude.{◌≡◌, ℕ, Bool, List, ◌<◌, ◌==◌, ◌%◌, Some, IsTrue};
+ghost use Rattle.std.specs.Prelude.{◌≡◌, ℕ, List, ◌<◌, ◌%◌, Some, IsTrue};
 ghost use Rattle.vx_base.specs.declared.machine.Fault.{Fault};
 ghost use Rattle.vx_flat.specs.Access.{access_width};
 ghost use Rattle.vx_flat.specs.Outcome.{faulted};

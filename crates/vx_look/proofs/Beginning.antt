@@ -11,7 +11,7 @@ use Rattle.vx_episode.specs.Instructions.{walk_time, residency_now, fetch_walk, 
 use Rattle.vx_episode.specs.Organisation.{Start, fetch_entries}
 use Rattle.vx_look.proofs.Going.{others-start}
 use Rattle.vx_look.specs.Fates.{is_miss}
-use Rattle.vx_look.specs.Fetches.{is_away, IsFetchedAs, IsFetched, EndsBehind}
+use Rattle.vx_look.specs.Fetches.{is_away, IsFetchedAs, IsFetched}
 use Rattle.vx_look.specs.declared.fetching.Fetched.{Fetched}
 use Rattle.vx_tables.specs.Caches.{Fill, filled_by, look_up}
 use Rattle.vx_tables.specs.Tables.{AreHeld}
@@ -74,12 +74,3 @@ module _ (start : Start) (history : History) (pc begun : ℕ) where
         others = others-start start.residency (fetch_walks history ++ data_walks history) root before.contents after.contents walk.others;
       } in
       subst (λ (t : FetchTimes). IsFetchedAs start history t root now before after f) (sym (walked-times walks)) made
-
-  pub fetched-late : (last : ℕ) (places now : List (Option Kept)) (before after : CellsState) → (is_canonical pc && is_miss seen) ≡ true → last < begun + walk_time start.machine → now ≡ places → after ≡ before
-      → EndsBehind start history pc begun last places now before after
-  fetched-late last places now before after walks late same cells = record {
-    ended = ap (λ (t : FetchTimes). t.ended) (walked-times walks);
-    late = late;
-    same = same;
-    cells = cells;
-  }

@@ -10,4 +10,3 @@ pub mod Settled
 pub mod Reached
 pub mod Late
 pub mod Sooner
-pub mod Words

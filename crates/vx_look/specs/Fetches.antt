@@ -1,10 +1,10 @@
 -- What a fetch's look-up and walk leave. This project's own.
-use Rattle.std.specs.Prelude.{◌≡◌, ℕ, ◌+◌, ◌<◌, Bool, true, false, List, ◌++◌, Option, Some, None}
+use Rattle.std.specs.Prelude.{◌≡◌, ℕ, ◌+◌, Bool, true, false, List, ◌++◌, Option}
 use Rattle.std.specs.Option.{option_to_list, option_map_or}
 use Rattle.vx_cells.specs.Cells.{CellsState}
 use Rattle.vx_episode.specs.Cycles.Cycle.{At}
 use Rattle.vx_episode.specs.History.{History, Walk, FetchTimes, data_walks, fetch_walks, fills_of, after_walks}
-use Rattle.vx_episode.specs.Instructions.{fetch_times, walk_time}
+use Rattle.vx_episode.specs.Instructions.{fetch_times}
 use Rattle.vx_episode.specs.Organisation.{Start}
 use Rattle.vx_look.specs.declared.fetching.Fetched.{Fetched}
 use Rattle.vx_tables.specs.Residency.{pages_of}
@@ -33,14 +33,3 @@ pub record IsFetchedAs (start : Start) (history : History) (t : FetchTimes) (roo
 
 abbrev pub IsFetched : (start : Start) (history : History) (pc begun root : ℕ) (places : List (Option Kept)) (before after : CellsState) → Fetched → Type 0
 IsFetched start history pc begun root places before after f = IsFetchedAs start history (fetch_times start history pc (At begun)) root places before after f
-
--- a fetch is walked, its walk doesn't end by a cycle, and nothing was changed
-pub record EndsBehind (start : Start) (history : History) (pc begun last : ℕ) (places now : List (Option Kept)) (before after : CellsState) : Type 0 where
-  pub ended : (fetch_times start history pc (At begun)).ended ≡ At (begun + walk_time start.machine)
-  pub late : last < begun + walk_time start.machine
-  pub same : now ≡ places
-  pub cells : after ≡ before
-
-abbrev pub IsFetchedBy : (start : Start) (history : History) (pc begun last root : ℕ) (places now : List (Option Kept)) (before after : CellsState) → Option Fetched → Type 0
-IsFetchedBy start history pc begun last root places now before after None = EndsBehind start history pc begun last places now before after
-IsFetchedBy start history pc begun last root places now before after (Some f) = IsFetched start history pc begun root now before after f

@@ -1,11 +1,11 @@
-ghost use Rattle.std.specs.Prelude.{◌≡◌, ℕ, true, ◌&&◌, ◌+◌, ◌*◌, ◌^◌, ◌<◌, ◌≤◌, [], List, IfOk, IfSome, max};
+ghost use Rattle.std.specs.Prelude.{◌≡◌, ℕ, true, ◌&&◌, ◌+◌, ◌*◌, ◌^◌, ◌<◌, ◌≤◌, [], List, IfOk};
 ghost use Rattle.vx_base.specs.declared.machine.Want.TheVariants.{Fetch};
 ghost use Rattle.vx_episode.specs.History.{History, fetch_walks, fills_of};
 ghost use Rattle.vx_episode.specs.Instructions.{residency_now, walk_time};
 ghost use Rattle.vx_episode.specs.Organisation.{Start};
 ghost use Rattle.vx_image.specs.Pages.{is_canonical, page_of};
 ghost use Rattle.vx_look.specs.Fates.{is_miss};
-ghost use Rattle.vx_look.specs.Fetches.{IsFetched, IsFetchedBy};
+ghost use Rattle.vx_look.specs.Fetches.{IsFetched};
 ghost use Rattle.vx_look.specs.Filled.{IsFilled, IsLetThrough};
 ghost use Rattle.vx_tables.specs.Caches.{Fill, look_up};
 ghost use Rattle.vx_tables.specs.Tables.{AreHeld};
@@ -167,41 +167,5 @@ impl FetchLookUps {
             };
         }
         self.walked(cells, root, pc, begun + 4 * bank_time)
-    }
-
-    /// The same where the walk is made only if it ends by a cycle; `None` where one ends later, and then nothing is changed.
-    pub fn fetch_ahead<C: Cells>(
-        &mut self,
-        cells: &mut C,
-        root: u32,
-        bank_time: u64,
-        pc: u64,
-        begun: u64,
-        last: u64,
-    ) -> Option<Fetched>
-        requires tables { HaveTables (C.state cells.old) root }
-        requires cycles { 4 * bank_time < 2 ^ 64 }
-        ensures tables { HaveTables (C.state cells.new) root }
-        ensures frames { (C.state cells.new).frames ≡ (C.state cells.old).frames }
-        ensures cycle { (C.state cells.new).cycle ≡ (C.state cells.old).cycle }
-        ensures ended { IfSome result (λ f. (begun ≤ f.ended) × (f.ended ≤ max begun last)) }
-        ensures fetched { (start : Start) (history : History) → start.machine.bank_time ≡ bank_time → StandsFor self.old (fills_of (fetch_walks history))
-            → AreHeld (C.state cells.old) root (residency_now start history)
-            → IsFetchedBy start history pc begun last root self.old self.new (C.state cells.old) (C.state cells.new) result }
-    {
-        if !self.is_walked(pc) {
-            return Some(Fetched {
-                ended: begun,
-                is_away: false,
-            });
-        }
-        let time = 4 * bank_time;
-        if last < time {
-            return None;
-        }
-        if begun > last - time {
-            return None;
-        }
-        Some(self.walked(cells, root, pc, begun + time))
     }
 }

@@ -1,14 +1,10 @@
 ghost use Rattle.std.specs.Prelude.{◌≡◌, ◌≢◌, ℕ, false, List, ◌∷◌, ◌++◌, map};
 ghost use Rattle.vx_base.specs.Pages.{IsPageList};
 ghost use Rattle.vx_base.specs.declared.machine.Want.{Want};
-ghost use Rattle.vx_episode.specs.Batches.{fate_of};
-ghost use Rattle.vx_episode.specs.Footprint.{Access, moved_access};
+ghost use Rattle.vx_episode.specs.Footprint.{moved_access};
 ghost use Rattle.vx_flat.specs.Transfers.{Direction};
-ghost use Rattle.vx_episode.specs.History.{History, BatchTimes, Walk, walks_of_batches, fills_of, after_walks};
-ghost use Rattle.vx_episode.specs.Organisation.{Start};
-ghost use Rattle.vx_look.specs.Fates.{IsWordBelow};
+ghost use Rattle.vx_episode.specs.History.{Walk, after_walks};
 ghost use Rattle.vx_look.specs.Fetches.{is_away};
-ghost use Rattle.vx_look.specs.Filled.{AreFilledBelow};
 ghost use Rattle.vx_look.specs.LookUps.{AreOf};
 ghost use Rattle.vx_vaddr.specs.Items.{accesses_of_items};
 ghost use Rattle.vx_vaddr.specs.declared.item.Item.{Item};
@@ -21,12 +17,6 @@ use vx_tables::walks_go_side_by_side;
 /// The accesses of a vector load or store are those of its items.
 pub fn accesses_are_of_their_items()
     ensures { (direction : Direction) (m : Movement) (items : List Item) → AreOf items (map (moved_access direction m) (accesses_of_items items)) }
-{}
-
-/// Where the pages that a cache keeps, with those of a batch's walks, lie in the memory's frames, so do the words of its accesses.
-pub fn words_lie_in_frames()
-    ensures { (start : Start) (history : History) (earlier : List BatchTimes) (want : Want) (started : ℕ) (walks : List Walk) (a : Access) (frames : ℕ) → AreFilledBelow frames (fills_of (walks ++ walks_of_batches earlier))
-        → IsWordBelow frames (fate_of start history earlier want started walks a) }
 {}
 
 /// Walks leave the same residency in whatever order they are made. None moves a page; one that isn't for a store changes no

@@ -16,5 +16,5 @@ mod pages;
 
 pub use fate::Looked;
 pub use fetching::{FetchLookUps, Fetched};
-pub use laws::{accesses_are_of_their_items, walks_commute, words_lie_in_frames};
+pub use laws::{accesses_are_of_their_items, walks_commute};
 pub use looking::DataLookUps;

@@ -1,5 +1,4 @@
-ghost use Rattle.std.specs.Prelude.{◌≡◌, ℕ, false, ◌==◌, ◌+◌, ◌*◌, ◌^◌, ◌<◌, ◌≤◌, [], ◌∷◌, List, IfOk, length, slice_index_or};
-ghost use Rattle.vx_cells.specs.Cells.{CellsState};
+ghost use Rattle.std.specs.Prelude.{◌≡◌, ℕ, false, ◌+◌, ◌*◌, ◌^◌, ◌<◌, ◌≤◌, [], ◌∷◌, List, IfOk, length, slice_index_or};
 ghost use Rattle.vx_episode.specs.Batches.{word_in, fate_walked, fate_of, is_unknown};
 ghost use Rattle.vx_episode.specs.Footprint.{Access};
 ghost use Rattle.vx_episode.specs.History.{History, BatchTimes, walks_of_batches, fills_of};
@@ -319,41 +318,5 @@ impl DataLookUps {
             fates,
             last,
         )
-    }
-
-    /// The same of a batch of one access.
-    pub fn look_ahead_one<C: Cells>(
-        &mut self,
-        cells: &mut C,
-        root: u32,
-        bank_time: u64,
-        want: Want,
-        started: u64,
-        address: u64,
-        width: u8,
-        last: u64,
-    ) -> Looked
-        requires tables { HaveTables (C.state cells.old) root }
-        requires width { 0 < width }
-        requires cycles { started + 32 * bank_time < 2 ^ 64 }
-        ensures tables { HaveTables (C.state cells.new) root }
-        ensures frames { (C.state cells.new).frames ≡ (C.state cells.old).frames }
-        ensures cycle { (C.state cells.new).cycle ≡ (C.state cells.old).cycle }
-        ensures started { started ≤ result.ended }
-        ensures ended { result.ended ≤ started + 32 * bank_time }
-        ensures known { IsKnownBy result.ended result.fate }
-        ensures looked { (start : Start) (history : History) (earlier : List BatchTimes) (a : Access) → start.machine.bank_time ≡ bank_time → a.address ≡ address → a.width ≡ width
-            → AreReady start history earlier root self.old (C.state cells.old)
-            → AreLookedAhead start history earlier want started (a ∷ []) last root self.new (C.state cells.old) (C.state cells.new) (result.fate ∷ []) result.ended }
-    {
-        let items = [item_of(address, width)];
-        let mut fates = [Fate::Unknown];
-        let ended = self.look_ahead_all(
-            cells, root, bank_time, want, started, &items, &mut fates, last,
-        );
-        Looked {
-            fate: fates[0],
-            ended,
-        }
     }
 }

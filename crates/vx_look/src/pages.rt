@@ -1,4 +1,4 @@
-ghost use Rattle.std.specs.Prelude.{◌≡◌, ◌==◌, ◌%◌, ◌<◌, ℕ, List};
+ghost use Rattle.std.specs.Prelude.{◌≡◌, ◌<◌, ℕ, List};
 ghost use Rattle.vx_image.specs.Pages.{page_of};
 ghost use Rattle.vx_look.specs.Fetches.{is_away};
 ghost use Rattle.vx_look.specs.Filled.{IsFilled, IsFoundBelow};

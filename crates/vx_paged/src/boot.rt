@@ -1,4 +1,4 @@
-ghost use Rattle.std.specs.Prelude.{◌≡◌, ℕ, ◌+◌, ◌*◌, ◌<◌, ◌≤◌, [], ◌∷◌, length, map, slice_index, IfErr, IfOk};
+ghost use Rattle.std.specs.Prelude.{◌≡◌, ℕ, ◌+◌, ◌*◌, ◌<◌, ◌≤◌, length, map, slice_index, IfErr, IfOk};
 ghost use Rattle.vx_cells.specs.Cells.{IsMemory, Makes};
 ghost use Rattle.vx_image.specs.Images.{entry_of_page};
 ghost use Rattle.vx_image.specs.Tables.{table_frames};
@@ -10,7 +10,7 @@ ghost use Rattle.vx_tables.specs.Building.{kernel_writes};
 use crate::laws::{pages_are_placed_in_turn, shown_memory_is_alike};
 use crate::placement::Placement;
 use std::alloc::{AllocError, Global};
-use vx_cells::{Cells, Port, accesses_are_made_in_turn, words_are_merged_by_bytes};
+use vx_cells::{Cells, accesses_are_made_in_turn, words_are_merged_by_bytes};
 use vx_image::Image;
 use vx_pending::nothing_else_differs;
 use vx_tables::pages_are_granted;

@@ -1,15 +1,13 @@
-ghost use Rattle.std.specs.Prelude.{◌≡◌, ℕ, ◌+◌, ◌-◌, ◌*◌, ◌/◌, ◌<◌, ◌≤◌, ◌%◌, ◌^◌, ◌++◌, ◌&&◌, List, length, slice_index, take, drop, min, true, false, None, Some, IsTrue, MatchOption, vec_len, vec_capacity, if◌then◌else◌};
-ghost use Rattle.vx_base.specs.Numbers.{from_little_endian, little_endian};
-ghost use Rattle.vx_base.specs.Page.{byte_of_words};
+ghost use Rattle.std.specs.Prelude.{◌≡◌, ℕ, ◌+◌, ◌-◌, ◌*◌, ◌/◌, ◌<◌, ◌≤◌, ◌%◌, ◌^◌, ◌++◌, ◌&&◌, List, slice_index, take, drop, min, true, false, None, Some, MatchOption, vec_len, vec_capacity, if◌then◌else◌};
+ghost use Rattle.vx_base.specs.Numbers.{little_endian};
 ghost use Rattle.vx_base.specs.declared.machine.Want.TheVariants as want;
-ghost use Rattle.vx_cells.specs.Cells.{IsMemory, Makes};
-ghost use Rattle.vx_flat.specs.Memory.{bytes_at, all_permit, put_bytes};
+ghost use Rattle.vx_cells.specs.Cells.{IsMemory};
+ghost use Rattle.vx_flat.specs.Memory.{bytes_at, all_permit};
 ghost use Rattle.vx_flat.specs.Service.{is_readable};
 ghost use Rattle.vx_image.specs.Pages.{permits};
-ghost use Rattle.vx_paged.specs.Framed.{IsPlacement, bytes_from, framed, shown};
+ghost use Rattle.vx_paged.specs.Framed.{IsPlacement, framed, shown};
 ghost use Rattle.vx_paged.specs.Granted.{IsGrantedIn, Serves};
 ghost use Rattle.vx_paged.specs.Left.{Fits, rest_of};
-ghost use Rattle.vx_scalar.specs.Operands.{is_access_width};
 
 use crate::bytes::{bytes_named, half_of, moved_up, part_of, word_index};
 use crate::placement::{FramedPage, Placement};

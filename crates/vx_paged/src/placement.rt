@@ -1,6 +1,6 @@
-ghost use Rattle.std.specs.Prelude.{◌≡◌, ◌+◌, ◌≤◌, ◌<◌, length, slice_index_or, IfOk};
+ghost use Rattle.std.specs.Prelude.{◌≡◌, ◌+◌, ◌≤◌, ◌<◌, length, IfOk};
 ghost use Rattle.vx_base.specs.declared.perm.PageEntry.{PageEntry};
-ghost use Rattle.vx_paged.specs.Framed.{IsPlacement, framed, in_turn};
+ghost use Rattle.vx_paged.specs.Framed.{IsPlacement, in_turn};
 
 use std::alloc::{AllocError, Global};
 use std::marker::Model;
