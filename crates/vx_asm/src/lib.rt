@@ -19,8 +19,6 @@ mod line;
 mod part;
 mod parts;
 mod placing;
-#[cfg(test)]
-mod tests;
 
 pub use asm_fault::AsmFault;
 pub use assembler::assemble;

@@ -12,8 +12,6 @@ mod list;
 mod numeral;
 mod piece;
 mod quoted;
-#[cfg(test)]
-mod tests;
 
 pub use byte::first_bad_byte;
 pub use fault::LexFault;
