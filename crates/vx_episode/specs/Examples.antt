@@ -1,6 +1,6 @@
 -- Small programs and when what they do comes, on which the definitions are computed. This project's own; the cycles were worked out
 -- by hand from the equations, as docs/TIMES.md shows.
-use Rattle.std.specs.Prelude.{◌≡◌, ℕ, ◌*◌, ◌^◌, ◌-◌, Bool, true, false, List, [], ◌∷◌, ◌++◌, map, flat_map, filter, replicate, reverse, Option, Some, None, option_map}
+use Rattle.std.specs.Prelude.{◌≡◌, ℕ, ◌*◌, ◌^◌, ◌-◌, ◌==◌, Bool, true, false, List, [], ◌∷◌, ◌++◌, map, flat_map, filter, replicate, reverse, Option, Some, None, option_map}
 use Rattle.std.specs.Option.{option_map_or}
 use Rattle.vx_base.specs.Numbers.{little_endian}
 use Rattle.vx_cells.specs.declared.access.Access as cells
@@ -8,6 +8,8 @@ use Rattle.vx_cells.specs.declared.access.Port.{Port}
 use Rattle.vx_cells.specs.declared.access.Port.TheVariants as port
 use Rattle.vx_base.specs.declared.machine.Want.TheVariants.{Fetch, Load, Store}
 use Rattle.vx_flat.specs.Process.{Process}
+use Rattle.vx_flat.specs.State.{Flat}
+use Rattle.vx_flat.specs.declared.end.End.TheVariants as end
 use Rattle.vx_image.specs.Pages.{MappedPage, Memory}
 use Rattle.vx_tables.specs.Residency.{Residency, PlacedPage, Place}
 use Rattle.vx_tables.specs.Residency.Place.{Away, Present}
@@ -240,6 +242,70 @@ loads_over = 0x83882a57 ∷ 0x83882457 ∷ 0x02057407 ∷ 0x02840657 ∷ 0x00000
 -- sw a1, 4(a0); ecall
 abbrev pub stores_half : List ℕ
 stores_half = 0x00b52223 ∷ 0x00000073 ∷ []
+
+-- ld a4, 0(a0); twice addi a2, a2, 0; jalr zero, 0(a0). And with ld a3, 0(a1) before it, and ten of addi
+abbrev pub loads_and_goes : List ℕ
+loads_and_goes = 0x00053703 ∷ 0x00060613 ∷ 0x00060613 ∷ 0x00050067 ∷ []
+
+abbrev pub loads_twice_and_goes : List ℕ
+loads_twice_and_goes = 0x0005b683 ∷ 0x00053703 ∷ replicate 10 0x00060613 ++ (0x00050067 ∷ [])
+
+-- sd a1, 0(a2); vsuxei64.v v8, (a0), v12; ecall
+abbrev pub scatters_behind : List ℕ
+scatters_behind = 0x00b63023 ∷ 0x06c57427 ∷ 0x00000073 ∷ []
+
+-- vlseg4e64.v v8, (a0); ecall
+abbrev pub loads_four_fields : List ℕ
+loads_four_fields = 0x62057407 ∷ 0x00000073 ∷ []
+
+-- vlse64.v v12, (a0), a1; ld a3, 0(a2); ecall
+abbrev pub loads_two_pages : List ℕ
+loads_two_pages = 0x0ab57607 ∷ 0x00063683 ∷ 0x00000073 ∷ []
+
+-- sd a1, 0(a0); ld a3, 0(a2); ld a4, 0(a0); sd a1, 8(a0); ecall
+abbrev pub stores_again : List ℕ
+stores_again = 0x00b53023 ∷ 0x00063683 ∷ 0x00053703 ∷ 0x00b53423 ∷ 0x00000073 ∷ []
+
+-- ld a1, 0(a0); sd a1, 0(a0); ecall
+abbrev pub loads_and_stores : List ℕ
+loads_and_stores = 0x00053583 ∷ 0x00b53023 ∷ 0x00000073 ∷ []
+
+-- lw a1, 4(a0); ecall
+abbrev pub loads_half : List ℕ
+loads_half = 0x00452583 ∷ 0x00000073 ∷ []
+
+-- div a3, a0, a0; ld a2, 0(a0); ecall
+abbrev pub divides_and_loads : List ℕ
+divides_and_loads = 0x02a546b3 ∷ 0x00053603 ∷ 0x00000073 ∷ []
+
+-- vdivu.vv v20, v24, v16; vle64.v v8, (a0); ecall
+abbrev pub divides_and_chains : List ℕ
+divides_and_chains = 0x83882a57 ∷ 0x02057407 ∷ 0x00000073 ∷ []
+
+-- mul a3, a0, a1; csrrw zero, vxrm, a1; ecall
+abbrev pub rounds : List ℕ
+rounds = 0x02b506b3 ∷ 0x00a59073 ∷ 0x00000073 ∷ []
+
+-- mul a3, a0, a1; vsetvli a3, a1, e64, m4; addi a4, a3, 0; mul a5, a0, a1; vsetvli t0, a5, e64, m4; ecall
+abbrev pub configures_twice : List ℕ
+configures_twice = 0x02b506b3 ∷ 0x01a5f6d7 ∷ 0x00068713 ∷ 0x02b507b3 ∷ 0x01a7f2d7 ∷ 0x00000073 ∷ []
+
+-- mul a2, a0, a1; vluxei64.v v16, (a0), v12; vadd.vv v12, v4, v12; addi a3, a2, 0; ecall
+abbrev pub shares_numbers : List ℕ
+shares_numbers = 0x02b50633 ∷ 0x06c57807 ∷ 0x02460657 ∷ 0x00060693 ∷ 0x00000073 ∷ []
+
+-- vid.v v8; vadd.vv v12, v8, v8; vslidedown.vi v16, v8, 1; vadd.vv v20, v16, v16; vcompress.vm v24, v8, v1; vadd.vv v28, v24, v24; ecall
+abbrev pub permutes : List ℕ
+permutes = 0x5208a457 ∷ 0x02840657 ∷ 0x3e80b857 ∷ 0x03080a57 ∷ 0x5e80ac57 ∷ 0x038c0e57 ∷ 0x00000073 ∷ []
+
+-- vadd.vv v12, v8, v8; ecall
+abbrev pub adds : List ℕ
+adds = 0x02840657 ∷ 0x00000073 ∷ []
+
+-- addi a2, a2, 0; mul a3, a0, a1; div a3, a0, a0; jal zero, 4; beq zero, zero, 4; ld a1, 0(a0); sd a1, 0(a0); fence; ebreak
+abbrev pub needs_none : List ℕ
+needs_none =
+    0x00060613 ∷ 0x02b506b3 ∷ 0x02a546b3 ∷ 0x0040006f ∷ 0x00000263 ∷ 0x00053583 ∷ 0x00b53023 ∷ 0x0000000f ∷ 0x00100073 ∷ []
 
 -- ---- what they come to
 
@@ -637,6 +703,184 @@ pub record OperandsHold : Type 0 where
   pub store : lacks_for stores_eight ≡ Some ended.Vector
   pub control : lacks_for reads_vlenb ≡ Some ended.Vector
 
+-- three loads of pages that are there, two of one word, with a window of four: the batch of the third waits for the retire of the
+-- first. A slice that is over at 40 ends before it is queued, and one that is over at 41 at that cycle: its access is served then
+abbrev pub thrice_loader : Process
+thrice_loader = process no_vectors 0x11000 0x11008 0 (zero_page 17 ∷ []) loads_thrice
+
+-- additions with a window of four: the retire of the first comes at the cycle of the third's fetch
+abbrev pub goer : Process
+goer = process no_vectors 0 0 0 [] (replicate 6 0x00060613)
+
+-- a store whose element 0 can't be written, which is known at 58, behind one that fills the cache: elements 1 to 5 hit, and are queued
+-- at 42, on one bank
+abbrev pub scatterer_behind : Process
+scatterer_behind = process
+    (record (eight_elements 0) { vl = 6; words = replicate 24 0 ++ (0x1000 ∷ 0 ∷ 8 ∷ 16 ∷ 24 ∷ 32 ∷ replicate 34 0) })
+    0x11000 0 0x11000 (zero_page 17 ∷ []) scatters_behind
+
+abbrev pub on_one_bank : Start
+on_one_bank = started (overlapped 8 1 1) (code_page ∷ data_page ∷ []) 0
+
+-- four fields of two elements, of which the last lies on a page that isn't mapped: the stop waits for element 0, and not for the fields
+-- of element 1 that are queued
+abbrev pub four_fields : Option EpisodeEnd
+four_fields = episode fields 1000 (process (record two_elements { vtype = 0x19 }) 0x11fc8 0 0 (last_page ∷ []) loads_four_fields)
+
+pub record FlightHolds : Type 0 where
+  pub starts : start_cycles (instructions twice 1000 thrice_loader.state) ≡ (18 ∷ []) ∷ (35 ∷ []) ∷ (41 ∷ []) ∷ [] ∷ []
+  pub ends : figures (episode twice 1000 thrice_loader) ≡ 48 ∷ 68 ∷ 3 ∷ 3 ∷ []
+  pub before_queue : figures (episode twice 40 thrice_loader) ≡ 40 ∷ 60 ∷ 1 ∷ 1 ∷ []
+  pub before_log : log_cycles (episode twice 40 thrice_loader) ≡ 5 ∷ 9 ∷ 13 ∷ 17 ∷ 17 ∷ 18 ∷ 19 ∷ 20 ∷ 22 ∷ 26 ∷ 30 ∷ 34 ∷ 35 ∷ 36 ∷ []
+  pub at_queue : figures (episode twice 41 thrice_loader) ≡ 41 ∷ 66 ∷ 2 ∷ 2 ∷ []
+  pub at_log : log_cycles (episode twice 41 thrice_loader) ≡ 5 ∷ 9 ∷ 13 ∷ 17 ∷ 17 ∷ 18 ∷ 19 ∷ 20 ∷ 22 ∷ 26 ∷ 30 ∷ 34 ∷ 35 ∷ 36 ∷ 42 ∷ []
+  pub fetched : log_cycles (episode twice 0 goer) ≡ 5 ∷ 9 ∷ 13 ∷ 17 ∷ 17 ∷ 18 ∷ 19 ∷ []
+  pub scatters : figures (episode on_one_bank 1000 scatterer_behind) ≡ 58 ∷ 83 ∷ 1 ∷ 1 ∷ []
+  pub scatters_with : ended_of (episode on_one_bank 1000 scatterer_behind) ≡ Some (ended.Faulted (record { cause = 15; tval = 0x12000; vstart = 0 }))
+  pub scatters_log : log_cycles (episode on_one_bank 1000 scatterer_behind)
+      ≡ 5 ∷ 9 ∷ 13 ∷ 17 ∷ 17 ∷ 18 ∷ 22 ∷ 26 ∷ 30 ∷ 34 ∷ 35 ∷ 42 ∷ 43 ∷ 46 ∷ 47 ∷ 50 ∷ 51 ∷ 54 ∷ 55 ∷ 59 ∷ []
+  pub four : figures four_fields ≡ 51 ∷ 83 ∷ 0 ∷ 1 ∷ []
+  pub four_log : log_cycles four_fields ≡ 5 ∷ 9 ∷ 13 ∷ 17 ∷ 17 ∷ 18 ∷ 22 ∷ 26 ∷ 30 ∷ 34 ∷ 35 ∷ 38 ∷ 39 ∷ 42 ∷ 43 ∷ 46 ∷ 47 ∷ 51 ∷ 55 ∷ 59 ∷ []
+
+-- a load from page 24, and a jump there four cycles later: the load's walk writes the leaf at 34, where the fetch's reads it, and sees
+-- A. And the other way round: the fetch's walk writes the leaf at 47, where the load's reads it, and doesn't see A
+abbrev pub one_behind : Option EpisodeEnd
+one_behind = episode (started (overlapped 4 8 4) (two_code_pages (Present 7 false false)) 0) 30
+    (process no_vectors 0x18000 0 0 (record { number = 24; permissions = 5; bytes = flat_map (little_endian 4) jumps_back } ∷ []) loads_and_goes)
+
+abbrev pub other_behind : Option EpisodeEnd
+other_behind = episode (started (overlapped 4 8 16) (code_page ∷ data_page ∷ placed_page 24 5 (Present 7 false false) ∷ []) 0) 50
+    (process no_vectors 0x18000 0x11000 0 (zero_page 17 ∷ record { number = 24; permissions = 5; bytes = flat_map (little_endian 4) jumps_back } ∷ []) loads_twice_and_goes)
+
+abbrev pub log_at : (cycle : ℕ) → Option EpisodeEnd → List cells.Access
+log_at cycle e = option_map_or (λ (e : EpisodeEnd). filter (λ (a : cells.Access). a.cycle == cycle) e.log) e []
+
+-- two elements on one bank, and a load from another page, whose walk reads where the second is served
+abbrev pub two_pages : Option EpisodeEnd
+two_pages = episode (started (overlapped 2 1 4) (code_page ∷ data_page ∷ placed_page 18 6 (Present 7 false true) ∷ []) 0) 1000
+    (process two_elements 0x11000 8 0x12000 (zero_page 17 ∷ zero_page 18 ∷ []) loads_two_pages)
+
+-- a page that is read again once it is out of the cache: D is set by then, so the store behind hits
+abbrev pub again : Option EpisodeEnd
+again = episode (started sequential far_pages 0) 1000 (process no_vectors 0x11000 0 0x31000 (zero_page 17 ∷ zero_page 49 ∷ []) stores_again)
+
+pub record TiedWalksHold : Type 0 where
+  pub sees : writes_of one_behind ≡ written 17 port.FetchWalk 1040 5211 ∷ written 34 port.Walk 1048 7259 ∷ []
+  pub sees_at : log_at 34 one_behind ≡ written 34 port.Walk 1048 7259 ∷ read 34 port.FetchWalk 1048 7259 ∷ []
+  pub sees_residency : residency_of one_behind ≡ Some (placed_page 16 5 (Present 5 true false) ∷ placed_page 24 5 (Present 7 true false) ∷ [])
+  pub misses : writes_of other_behind
+      ≡ written 17 port.FetchWalk 1040 5211 ∷ written 34 port.Walk 1041 6231 ∷ written 47 port.FetchWalk 1048 7259 ∷ written 51 port.Walk 1048 7259 ∷ []
+  pub misses_at : log_at 47 other_behind
+      ≡ read 47 port.Walk 1048 7195 ∷ written 47 port.FetchWalk 1048 7259 ∷ read 47 port.Fetch 3584 0x804f806f ∷ []
+  pub two_at : log_at 39 two_pages ≡ read 39 port.Data 3073 0 ∷ read 39 port.Walk 0 1025 ∷ []
+  pub again_ends : figures again ≡ 97 ∷ 117 ∷ 4 ∷ 4 ∷ []
+  pub again_writes : map (λ (a : cells.Access). a.cycle) (writes_of again) ≡ 17 ∷ 34 ∷ 35 ∷ 58 ∷ 91 ∷ []
+
+-- with a bank time of 2
+abbrev pub quick : Start
+quick = record storing { machine = record sequential { bank_time = 2 } }
+
+-- elements on two pages: the second hits, and is served before the first
+abbrev pub down_present : Start
+down_present = record down { residency = code_page ∷ data_page ∷ placed_page 18 6 (Present 7 false false) ∷ [] }
+
+-- a page that can't be written is in the cache: it is known at the start
+abbrev pub read_only : Option EpisodeEnd
+read_only = episode (record storing { residency = code_page ∷ placed_page 17 4 (Present 6 false false) ∷ [] }) 1000
+    (process no_vectors 0x11000 0 0 (record (zero_page 17) { permissions = 4 } ∷ []) loads_and_stores)
+
+-- an address that isn't canonical: it isn't walked
+abbrev pub wild_loader : Process
+wild_loader = process no_vectors (2 ^ 63) 0 0 [] loads_twice
+
+abbrev pub process_of : Option EpisodeEnd → Option Process
+process_of e = option_map (λ (e : EpisodeEnd). e.process) e
+
+-- a misaligned load, behind a division: it stops behind the division's retire
+abbrev pub behind_division : Option EpisodeEnd
+behind_division = episode twice 1000 (process no_vectors 0x11001 0 0 (zero_page 17 ∷ []) divides_and_loads)
+
+-- loads that shorten vl to 1, in the first of two batches, and that have no element
+abbrev pub trims_first : Process
+trims_first = process (eight_elements 0) 0x11ff8 0 0 (last_page ∷ []) loads_first
+
+abbrev pub trims_none : Process
+trims_none = process (record (eight_elements 0) { vl = 0 }) 0x11ff8 0 0 (last_page ∷ []) loads_first
+
+-- a word of which half is loaded
+abbrev pub half_loader : Process
+half_loader = process no_vectors 0x11000 0 0 (record { number = 17; permissions = 6; bytes = little_endian 8 0x0000000700000005 } ∷ []) loads_half
+
+pub record AccessesHold : Type 0 where
+  pub quick_ends : figures (episode quick 1000 storer) ≡ 43 ∷ 63 ∷ 3 ∷ 3 ∷ []
+  pub quick_log : log_cycles (episode quick 1000 storer) ≡ 3 ∷ 5 ∷ 7 ∷ 9 ∷ 9 ∷ 10 ∷ 12 ∷ 14 ∷ 16 ∷ 18 ∷ 19 ∷ 24 ∷ 26 ∷ 28 ∷ 30 ∷ 32 ∷ 33 ∷ 38 ∷ 39 ∷ []
+  pub down_serves : serve_cycles (instructions down_present 1000 down_storer.state) ≡ (35 ∷ []) ∷ (43 ∷ 59 ∷ []) ∷ [] ∷ []
+  pub down_ends : figures (episode down_present 1000 down_storer) ≡ 65 ∷ 85 ∷ 2 ∷ 2 ∷ []
+  pub denied : figures read_only ≡ 42 ∷ 62 ∷ 1 ∷ 1 ∷ []
+  pub denied_is : ended_of read_only ≡ Some (ended.Faulted (record { cause = 15; tval = 0x11000; vstart = 0 }))
+  pub wild : figures (episode twice 1000 wild_loader) ≡ 18 ∷ 38 ∷ 0 ∷ 0 ∷ []
+  pub wild_process : process_of (episode twice 1000 wild_loader)
+      ≡ Some (record wild_loader { over = Some (end.Faulted (record { cause = 13; tval = 2 ^ 63; vstart = 0 })) })
+  pub division : figures behind_division ≡ 39 ∷ 59 ∷ 1 ∷ 1 ∷ []
+  pub division_is : ended_of behind_division ≡ Some (ended.Faulted (record { cause = 4; tval = 0x11001; vstart = 0 }))
+  -- a batch that is done commits behind the retire before it
+  pub commits_behind : figures (episode trimming 44 (record chainer { state = record chainer.state { memory = program divides_and_chains ∷ zero_page 17 ∷ [] } })) ≡ 44 ∷ 64 ∷ 1 ∷ 2 ∷ []
+  pub first_starts : start_cycles (instructions trimming 1000 trims_first.state) ≡ (18 ∷ []) ∷ [] ∷ [] ∷ []
+  pub first_ends : figures (episode trimming 1000 trims_first) ≡ 56 ∷ 76 ∷ 2 ∷ 2 ∷ []
+  pub none_issues : issue_cycles (instructions trimming 1000 trims_none.state) ≡ 17 ∷ 19 ∷ 22 ∷ []
+  pub half : log_at 35 (episode storing 1000 half_loader) ≡ read 35 port.Data 3072 0x0000000700000005 ∷ []
+  -- of the accesses of one cycle, that on the lowest bank is first; those that are queued by the end are there
+  pub banks : option_map_or (λ (e : EpisodeEnd). map (λ (a : cells.Access). a.word) e.log) (episode loading 39 loader) []
+      ≡ 0 ∷ 512 ∷ 1040 ∷ 1040 ∷ 2560 ∷ 2560 ∷ 0 ∷ 512 ∷ 1041 ∷ 1041 ∷ 3072 ∷ 3073 ∷ 3074 ∷ 3075 ∷ 3076 ∷ 3077 ∷ 3078 ∷ 3079 ∷ []
+
+-- what else an instruction may be: what it stops with, what it waits for, and whether it changes the vector state
+abbrev pub ends_with : Start → (words : List ℕ) → Option Ended
+ends_with start words = ended_of (episode start 1000 (process no_vectors 0x11000 0 0 (zero_page 17 ∷ []) words))
+
+abbrev pub lacking_wide : Start
+lacking_wide = record (wide 2) { has_vectors = false }
+
+-- a jump to page 17, which can't be executed, and on which a vector instruction stands
+abbrev pub jumps_to_data : Option EpisodeEnd
+jumps_to_data = episode lacking_wide 1000 (process no_vectors 0x11000 0 0 (record (program adds) { number = 17; permissions = 6 } ∷ []) jumps_by)
+
+pub record FootprintsHold : Type 0 where
+  pub misaligned : figures (episode having 1000 (process no_vectors 0 0 0 [] (0x0020006f ∷ []))) ≡ 17 ∷ 37 ∷ 0 ∷ 0 ∷ []
+  pub misaligned_is : ends_with having (0x0020006f ∷ []) ≡ Some (ended.Faulted (record { cause = 0; tval = 0x10002; vstart = 0 }))
+  pub illegal : ends_with having (0 ∷ []) ≡ Some (ended.Faulted (record { cause = 2; tval = 0; vstart = 0 }))
+  pub unset : ends_with having adds ≡ Some (ended.Faulted (record { cause = 2; tval = 0x02840657; vstart = 0 }))
+  pub unset_lacking : ends_with lacking_wide adds ≡ Some ended.Vector
+  pub none_lacking : ends_with lacking_wide needs_none ≡ Some (ended.Faulted (record { cause = 3; tval = 0; vstart = 0 }))
+  pub asks_lacking : ends_with lacking_wide (0x00000073 ∷ []) ≡ Some ended.Service
+  -- csrrs t0, cycle, zero
+  pub other_lacking : ends_with lacking_wide (0xc00022f3 ∷ []) ≡ Some (ended.Faulted (record { cause = 2; tval = 0xc00022f3; vstart = 0 }))
+  pub denied_lacking : ended_of jumps_to_data ≡ Some (ended.Faulted (record { cause = 12; tval = 0x11000; vstart = 0 }))
+  pub denied_log : log_cycles jumps_to_data ≡ 5 ∷ 9 ∷ 13 ∷ 17 ∷ 17 ∷ 23 ∷ 27 ∷ 31 ∷ []
+  pub rounds_issues : issue_cycles (instructions (wide 2) 1000 (by_operands rounds).state) ≡ 17 ∷ 22 ∷ 25 ∷ []
+  pub rounds_changes : changed_in (episode (wide 2) 1000 (by_operands rounds)) ≡ Some true
+  pub adds_changes : changed_in (episode (wide 2) 1000 (by_operands adds)) ≡ Some true
+  pub loads_changes : changed_in (episode loading 39 loader) ≡ Some true
+  pub loads_before : changed_in (episode twice 1000 wild_loader) ≡ Some false
+  pub stops_changes : changed_in (episode (across Away) 1000 (crosser 0)) ≡ Some true
+  pub stops_before : changed_in (episode down 1000 down_storer) ≡ Some false
+  pub configures : issue_cycles (instructions (wide 2) 1000 (by_operands configures_twice).state) ≡ 17 ∷ 18 ∷ 19 ∷ 20 ∷ 23 ∷ 26 ∷ []
+  pub numbers : issue_cycles (instructions (wide 2) 1000 (by_operands shares_numbers).state) ≡ 17 ∷ 18 ∷ 19 ∷ 20 ∷ 48 ∷ []
+  pub permutes : beat_cycles (instructions (wide 2) 1000 (process (eight_elements 0) 0 0 0 [] permutes).state)
+      ≡ (18 ∷ 19 ∷ 20 ∷ 21 ∷ []) ∷ (22 ∷ 23 ∷ 24 ∷ 25 ∷ []) ∷ (23 ∷ 24 ∷ 25 ∷ 26 ∷ []) ∷ (27 ∷ 28 ∷ 29 ∷ 30 ∷ []) ∷ (27 ∷ 28 ∷ 29 ∷ 30 ∷ []) ∷ (31 ∷ 32 ∷ 33 ∷ 34 ∷ []) ∷ [] ∷ []
+  -- from element 3 to element 6: a group of word 3 alone, one of two, and one of word 6 alone
+  pub groups : beat_cycles (instructions (wide 2) 1000 (process (record (eight_elements 3) { vl = 7 }) 0 0 0 [] adds).state) ≡ (18 ∷ 19 ∷ 20 ∷ []) ∷ [] ∷ []
+
+-- which bytes are pending: those of a scalar store, and of a vector store from vstart on; none of a load, nor of an access that fails
+abbrev pub pending_among : Flat → List ℕ → List Bool
+pending_among s addresses = map (is_pending s) addresses
+
+pub record PendingHolds : Type 0 where
+  pub scalar : pending_among half_storer.state (0x11003 ∷ 0x11004 ∷ 0x11007 ∷ 0x11008 ∷ []) ≡ false ∷ true ∷ true ∷ false ∷ []
+  pub scalar_fails : pending_among (record half_storer.state { memory = program stores_half ∷ record (zero_page 17) { permissions = 4 } ∷ [] }) (0x11004 ∷ []) ≡ false ∷ []
+  pub load : pending_among loader.state (0x11000 ∷ []) ≡ false ∷ []
+  pub from_vstart : pending_among (crosser 3).state (0x11ff8 ∷ 0x12000 ∷ 0x12027 ∷ 0x12028 ∷ []) ≡ false ∷ true ∷ true ∷ false ∷ []
+  pub fails : pending_among (record scatterer_behind.state { pc = 0x10004 }) (0x11000 ∷ 0x12000 ∷ []) ≡ true ∷ false ∷ []
+
 pub record ExamplesHold : Type 0 where
   pub hi : HiHolds
   pub calculates : CalculatesHolds
@@ -656,3 +900,8 @@ pub record ExamplesHold : Type 0 where
   pub ties : TiesHold
   pub walks : WalksHold
   pub operands : OperandsHold
+  pub flight : FlightHolds
+  pub tied_walks : TiedWalksHold
+  pub accesses : AccessesHold
+  pub footprints : FootprintsHold
+  pub pending : PendingHolds

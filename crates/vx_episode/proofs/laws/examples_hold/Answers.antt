@@ -10,7 +10,7 @@ use Rattle.vx_vector.specs.Batches.{longest_run}
 use Rattle.vx_packed.specs.Joined.{some_below}
 use Rattle.vx_episode.specs.Footprint.{footprint}
 use Rattle.vx_episode.specs.Episode.{run_on, fetched_on, episode}
-use Rattle.vx_episode.specs.Examples.{HiHolds, CalculatesHolds, LoadsHold, StoresHold, AcrossHolds, TrimsHold, InFlightHold, WaitsHold, StopsHold, ChainsHold, HandlesHold, MasksHold, ScattersHold, JumpsHold, BatchesHold, TiesHold, WalksHold, OperandsHold}
+use Rattle.vx_episode.specs.Examples.{HiHolds, CalculatesHolds, LoadsHold, StoresHold, AcrossHolds, TrimsHold, InFlightHold, WaitsHold, StopsHold, ChainsHold, HandlesHold, MasksHold, ScattersHold, JumpsHold, BatchesHold, TiesHold, WalksHold, OperandsHold, FlightHolds, TiedWalksHold, AccessesHold, FootprintsHold, PendingHolds}
 use Rattle.vx_episode.specs.Show.{is_pending}
 use Rattle.vx_episode.proofs.laws.examples_hold.Goals as goal
 
@@ -86,5 +86,25 @@ operands : OperandsHold
 unfolding operations upcoming performed page_map after_walk walk table_walk entry_in merged after_elements longest_run some_below footprint run_on fetched_on episode
 operands = record { operands = refl; bases = refl; over = refl; half = refl; away = refl; none = refl; arithmetic = refl; load = refl; store = refl; control = refl }
 
+flight : FlightHolds
+unfolding operations upcoming performed page_map after_walk walk table_walk entry_in merged after_elements longest_run some_below footprint run_on fetched_on episode
+flight = record { starts = refl; ends = refl; before_queue = refl; before_log = refl; at_queue = refl; at_log = refl; fetched = refl; scatters = refl; scatters_with = refl; scatters_log = refl; four = refl; four_log = refl }
+
+tied_walks : TiedWalksHold
+unfolding operations upcoming performed page_map after_walk walk table_walk entry_in merged after_elements longest_run some_below footprint run_on fetched_on episode
+tied_walks = record { sees = refl; sees_at = refl; sees_residency = refl; misses = refl; misses_at = refl; two_at = refl; again_ends = refl; again_writes = refl }
+
+accesses : AccessesHold
+unfolding operations upcoming performed page_map after_walk walk table_walk entry_in merged after_elements longest_run some_below footprint run_on fetched_on episode
+accesses = record { quick_ends = refl; quick_log = refl; down_serves = refl; down_ends = refl; denied = refl; denied_is = refl; wild = refl; wild_process = refl; division = refl; division_is = refl; commits_behind = refl; first_starts = refl; first_ends = refl; none_issues = refl; half = refl; banks = refl }
+
+footprints : FootprintsHold
+unfolding operations upcoming performed page_map after_walk walk table_walk entry_in merged after_elements longest_run some_below footprint run_on fetched_on episode
+footprints = record { misaligned = refl; misaligned_is = refl; illegal = refl; unset = refl; unset_lacking = refl; none_lacking = refl; asks_lacking = refl; other_lacking = refl; denied_lacking = refl; denied_log = refl; rounds_issues = refl; rounds_changes = refl; adds_changes = refl; loads_changes = refl; loads_before = refl; stops_changes = refl; stops_before = refl; configures = refl; numbers = refl; permutes = refl; groups = refl }
+
+pending : PendingHolds
+unfolding operations upcoming performed page_map after_walk walk table_walk entry_in merged after_elements longest_run some_below footprint run_on fetched_on episode is_pending
+pending = record { scalar = refl; scalar_fails = refl; load = refl; from_vstart = refl; fails = refl }
+
 pub returns : goal.returns
-returns c = record { hi = hi; calculates = calculates; loads = loads; stores = stores; across = across; trims = trims; in_flight = in_flight; waits = waits; stops = stops; chains = chains; handles = handles; masks = masks; scatters = scatters; jumps = jumps; batches = batches; ties = ties; walks = walks; operands = operands }
+returns c = record { hi = hi; calculates = calculates; loads = loads; stores = stores; across = across; trims = trims; in_flight = in_flight; waits = waits; stops = stops; chains = chains; handles = handles; masks = masks; scatters = scatters; jumps = jumps; batches = batches; ties = ties; walks = walks; operands = operands; flight = flight; tied_walks = tied_walks; accesses = accesses; footprints = footprints; pending = pending }
