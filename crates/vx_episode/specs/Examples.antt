@@ -307,6 +307,10 @@ abbrev pub needs_none : List ℕ
 needs_none =
     0x00060613 ∷ 0x02b506b3 ∷ 0x02a546b3 ∷ 0x0040006f ∷ 0x00000263 ∷ 0x00053583 ∷ 0x00b53023 ∷ 0x0000000f ∷ 0x00100073 ∷ []
 
+-- sb a1, 1(a0); ecall
+abbrev pub stores_byte : List ℕ
+stores_byte = 0x00b500a3 ∷ 0x00000073 ∷ []
+
 -- ---- what they come to
 
 -- the program that writes, with one instruction in flight, first from cycle 100 on, and behind the service from cycle 203 on: 52 and
@@ -796,6 +800,10 @@ wild_loader = process no_vectors (2 ^ 63) 0 0 [] loads_twice
 abbrev pub process_of : Option EpisodeEnd → Option Process
 process_of e = option_map (λ (e : EpisodeEnd). e.process) e
 
+-- how many instructions it has completed, and the next one
+abbrev pub place_of_process : Option EpisodeEnd → List ℕ
+place_of_process e = option_map_or (λ (e : EpisodeEnd). e.process.count ∷ e.process.state.pc ∷ []) e []
+
 -- a misaligned load, behind a division: it stops behind the division's retire
 abbrev pub behind_division : Option EpisodeEnd
 behind_division = episode twice 1000 (process no_vectors 0x11001 0 0 (zero_page 17 ∷ []) divides_and_loads)
@@ -811,6 +819,13 @@ trims_none = process (record (eight_elements 0) { vl = 0 }) 0x11ff8 0 0 (last_pa
 abbrev pub half_loader : Process
 half_loader = process no_vectors 0x11000 0 0 (record { number = 17; permissions = 6; bytes = little_endian 8 0x0000000700000005 } ∷ []) loads_half
 
+-- stores of a byte of a wide number, and of two elements
+abbrev pub byte_storer : Process
+byte_storer = process no_vectors 0x11000 0x1234 0 (zero_page 17 ∷ []) stores_byte
+
+abbrev pub pair_storer : Process
+pair_storer = process (record two_elements { words = replicate 16 0 ++ (7 ∷ 9 ∷ replicate 46 0) }) 0x11000 0 0 (zero_page 17 ∷ []) stores_eight
+
 pub record AccessesHold : Type 0 where
   pub quick_ends : figures (episode quick 1000 storer) ≡ 43 ∷ 63 ∷ 3 ∷ 3 ∷ []
   pub quick_log : log_cycles (episode quick 1000 storer) ≡ 3 ∷ 5 ∷ 7 ∷ 9 ∷ 9 ∷ 10 ∷ 12 ∷ 14 ∷ 16 ∷ 18 ∷ 19 ∷ 24 ∷ 26 ∷ 28 ∷ 30 ∷ 32 ∷ 33 ∷ 38 ∷ 39 ∷ []
@@ -821,6 +836,7 @@ pub record AccessesHold : Type 0 where
   pub wild : figures (episode twice 1000 wild_loader) ≡ 18 ∷ 38 ∷ 0 ∷ 0 ∷ []
   pub wild_process : process_of (episode twice 1000 wild_loader)
       ≡ Some (record wild_loader { over = Some (end.Faulted (record { cause = 13; tval = 2 ^ 63; vstart = 0 })) })
+  pub at_queue : place_of_process (episode twice 41 thrice_loader) ≡ 2 ∷ 0x10008 ∷ []
   pub division : figures behind_division ≡ 39 ∷ 59 ∷ 1 ∷ 1 ∷ []
   pub division_is : ended_of behind_division ≡ Some (ended.Faulted (record { cause = 4; tval = 0x11001; vstart = 0 }))
   -- a batch that is done commits behind the retire before it
@@ -828,6 +844,10 @@ pub record AccessesHold : Type 0 where
   pub first_starts : start_cycles (instructions trimming 1000 trims_first.state) ≡ (18 ∷ []) ∷ [] ∷ [] ∷ []
   pub first_ends : figures (episode trimming 1000 trims_first) ≡ 56 ∷ 76 ∷ 2 ∷ 2 ∷ []
   pub none_issues : issue_cycles (instructions trimming 1000 trims_none.state) ≡ 17 ∷ 19 ∷ 22 ∷ []
+  pub byte : log_at 35 (episode storing 1000 byte_storer) ≡ record (written 35 port.Data 3072 0x3400) { bytes = 2 } ∷ []
+  pub pair : log_at 35 (episode loading 1000 pair_storer) ≡ written 35 port.Data 3072 7 ∷ written 35 port.Data 3073 9 ∷ []
+  -- tables from frame 8 on
+  pub rooted : log_at 5 (episode (record storing { root = 8 }) 1000 storer) ≡ read 5 port.FetchWalk 4096 9217 ∷ []
   pub half : log_at 35 (episode storing 1000 half_loader) ≡ read 35 port.Data 3072 0x0000000700000005 ∷ []
   -- of the accesses of one cycle, that on the lowest bank is first; those that are queued by the end are there
   pub banks : option_map_or (λ (e : EpisodeEnd). map (λ (a : cells.Access). a.word) e.log) (episode loading 39 loader) []
