@@ -311,6 +311,13 @@ needs_none =
 abbrev pub stores_byte : List ℕ
 stores_byte = 0x00b500a3 ∷ 0x00000073 ∷ []
 
+-- jal zero, 0x4000; ecall; and, at that address, jal zero, -0x3ffc, which is back behind the first
+abbrev pub jumps_near : List ℕ
+jumps_near = 0x0000406f ∷ 0x00000073 ∷ []
+
+abbrev pub jumps_back_near : List ℕ
+jumps_back_near = 0x804fc06f ∷ []
+
 -- ---- what they come to
 
 -- the program that writes, with one instruction in flight, first from cycle 100 on, and behind the service from cycle 203 on: 52 and
@@ -826,7 +833,19 @@ byte_storer = process no_vectors 0x11000 0x1234 0 (zero_page 17 ∷ []) stores_b
 abbrev pub pair_storer : Process
 pair_storer = process (record two_elements { words = replicate 16 0 ++ (7 ∷ 9 ∷ replicate 46 0) }) 0x11000 0 0 (zero_page 17 ∷ []) stores_eight
 
+-- pages 16 and 20 have different places in the cache of fetches, and pages 17 and 33 in that of data
+abbrev pub near_jumper : Process
+near_jumper = process no_vectors 0 0 0 (record { number = 20; permissions = 5; bytes = flat_map (little_endian 4) jumps_back_near } ∷ []) jumps_near
+
+abbrev pub near_loader : Process
+near_loader = process no_vectors 0x11000 0x21000 0 (zero_page 17 ∷ zero_page 33 ∷ []) loads_thrice
+
+abbrev pub near_pages : Residency
+near_pages = code_page ∷ data_page ∷ placed_page 33 6 (Present 7 false false) ∷ []
+
 pub record AccessesHold : Type 0 where
+  pub near_fetches : issue_cycles (instructions (started sequential (code_page ∷ placed_page 20 5 (Present 7 false false) ∷ []) 0) 1000 near_jumper.state) ≡ 17 ∷ 35 ∷ 38 ∷ []
+  pub near_serves : serve_cycles (instructions (started sequential near_pages 0) 1000 near_loader.state) ≡ (35 ∷ []) ∷ (59 ∷ []) ∷ (67 ∷ []) ∷ [] ∷ []
   pub quick_ends : figures (episode quick 1000 storer) ≡ 43 ∷ 63 ∷ 3 ∷ 3 ∷ []
   pub quick_log : log_cycles (episode quick 1000 storer) ≡ 3 ∷ 5 ∷ 7 ∷ 9 ∷ 9 ∷ 10 ∷ 12 ∷ 14 ∷ 16 ∷ 18 ∷ 19 ∷ 24 ∷ 26 ∷ 28 ∷ 30 ∷ 32 ∷ 33 ∷ 38 ∷ 39 ∷ []
   pub down_serves : serve_cycles (instructions down_present 1000 down_storer.state) ≡ (35 ∷ []) ∷ (43 ∷ 59 ∷ []) ∷ [] ∷ []

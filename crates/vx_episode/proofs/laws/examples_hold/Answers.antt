@@ -96,7 +96,7 @@ tied_walks = record { sees = refl; sees_at = refl; sees_residency = refl; misses
 
 accesses : AccessesHold
 unfolding operations upcoming performed page_map after_walk walk table_walk entry_in merged after_elements longest_run some_below footprint run_on fetched_on episode
-accesses = record { quick_ends = refl; quick_log = refl; down_serves = refl; down_ends = refl; denied = refl; denied_is = refl; wild = refl; wild_process = refl; at_queue = refl; division = refl; division_is = refl; commits_behind = refl; first_starts = refl; first_ends = refl; none_issues = refl; byte = refl; pair = refl; rooted = refl; half = refl; banks = refl }
+accesses = record { near_fetches = refl; near_serves = refl; quick_ends = refl; quick_log = refl; down_serves = refl; down_ends = refl; denied = refl; denied_is = refl; wild = refl; wild_process = refl; at_queue = refl; division = refl; division_is = refl; commits_behind = refl; first_starts = refl; first_ends = refl; none_issues = refl; byte = refl; pair = refl; rooted = refl; half = refl; banks = refl }
 
 footprints : FootprintsHold
 unfolding operations upcoming performed page_map after_walk walk table_walk entry_in merged after_elements longest_run some_below footprint run_on fetched_on episode
