@@ -318,6 +318,26 @@ jumps_near = 0x0000406f ∷ 0x00000073 ∷ []
 abbrev pub jumps_back_near : List ℕ
 jumps_back_near = 0x804fc06f ∷ []
 
+-- mul a3, a0, a1; bne a0, a3, 4; mul a4, a0, a1; jalr zero, 16(a4); ecall
+abbrev pub waits_to_jump : List ℕ
+waits_to_jump = 0x02b506b3 ∷ 0x00d51263 ∷ 0x02b50733 ∷ 0x01070067 ∷ 0x00000073 ∷ []
+
+-- vid.v v8; vmul.vv v12, v8, v8; ecall
+abbrev pub squares : List ℕ
+squares = 0x5208a457 ∷ 0x96842657 ∷ 0x00000073 ∷ []
+
+-- sd a1, 0(a2); ld a3, 0(a0); vsse64.v v8, (a0), a1; ecall
+abbrev pub loads_and_stores_down : List ℕ
+loads_and_stores_down = 0x00b63023 ∷ 0x00053683 ∷ 0x0ab57427 ∷ 0x00000073 ∷ []
+
+-- mul a2, a0, a1; vsetivli t0, 12, e64, m4; ecall
+abbrev pub configures_by_number : List ℕ
+configures_by_number = 0x02b50633 ∷ 0xc1a672d7 ∷ 0x00000073 ∷ []
+
+-- twice addi a2, a2, 0; ecall
+abbrev pub goes_twice : List ℕ
+goes_twice = 0x00060613 ∷ 0x00060613 ∷ 0x00000073 ∷ []
+
 -- ---- what they come to
 
 -- the program that writes, with one instruction in flight, first from cycle 100 on, and behind the service from cycle 203 on: 52 and
@@ -909,6 +929,33 @@ pub record FootprintsHold : Type 0 where
   -- from element 3 to element 6: a group of word 3 alone, one of two, and one of word 6 alone
   pub groups : beat_cycles (instructions (wide 2) 1000 (process (record (eight_elements 3) { vl = 7 }) 0 0 0 [] adds).state) ≡ (18 ∷ 19 ∷ 20 ∷ []) ∷ [] ∷ []
 
+-- three elements on pages 17, 18 and 19, of which page 18 isn't mapped: page 19 isn't walked
+abbrev pub three_pages : Option EpisodeEnd
+three_pages = episode (started (overlapped 4 8 1) (code_page ∷ data_page ∷ placed_page 19 6 (Present 7 false false) ∷ []) 0) 1000
+    (process (record two_elements { vl = 3 }) 0x11000 0x1000 0 (zero_page 17 ∷ zero_page 19 ∷ []) loads_apart)
+
+-- a store whose element 0 lies on page 18, which is in the cache and can't be written, and element 1 on page 17, which is there with D:
+-- it is known at the start that the first fails, so the second isn't queued
+abbrev pub down_denied : Option EpisodeEnd
+down_denied = episode (record down { residency = code_page ∷ data_page ∷ placed_page 18 4 (Present 7 false false) ∷ [] }) 1000
+    (process two_elements 0x12000 (2 ^ 64 - 4096) 0x11000 (zero_page 17 ∷ record (zero_page 18) { permissions = 4 } ∷ []) loads_and_stores_down)
+
+-- a page that can only be executed is kept in the cache of fetches as well
+abbrev pub only_executed : Start
+only_executed = started sequential (placed_page 16 1 (Present 5 false false) ∷ []) 0
+
+pub record KnownHolds : Type 0 where
+  pub number : issue_cycles (instructions (wide 2) 1000 (by_operands configures_by_number).state) ≡ 17 ∷ 18 ∷ 23 ∷ []
+  pub retires : retire_cycles (instructions trimming 1000 trimmer.state) ≡ 52 ∷ 57 ∷ []
+  pub fetches : issue_cycles (instructions only_executed 1000 (record goer.state { memory = record (program goes_twice) { permissions = 1 } ∷ [] })) ≡ 17 ∷ 20 ∷ 23 ∷ []
+  pub exits_is : ended_of (episode (started sequential (code_page ∷ []) 203) 10100 (process no_vectors 0 0 0 [] exits)) ≡ Some ended.Service
+  pub jumps : issue_cycles (instructions (wide 2) 1000 (process two_elements 0x10000 1 0 [] waits_to_jump).state) ≡ 17 ∷ 20 ∷ 22 ∷ 25 ∷ 28 ∷ []
+  pub squares : beat_cycles (instructions (wide 2) 1000 (process (eight_elements 0) 0 0 0 [] squares).state) ≡ (18 ∷ 19 ∷ 20 ∷ 21 ∷ []) ∷ (20 ∷ 21 ∷ 22 ∷ 23 ∷ []) ∷ [] ∷ []
+  pub three : figures three_pages ≡ 50 ∷ 70 ∷ 0 ∷ 1 ∷ []
+  pub three_with : ended_of three_pages ≡ Some (ended.Faulted (record { cause = 13; tval = 0x12000; vstart = 1 }))
+  pub down : figures down_denied ≡ 66 ∷ 86 ∷ 2 ∷ 2 ∷ []
+  pub down_with : ended_of down_denied ≡ Some (ended.Faulted (record { cause = 15; tval = 0x12000; vstart = 0 }))
+
 -- which bytes are pending: those of a scalar store, and of a vector store from vstart on; none of a load, nor of an access that fails
 abbrev pub pending_among : Flat → List ℕ → List Bool
 pending_among s addresses = map (is_pending s) addresses
@@ -944,3 +991,4 @@ pub record ExamplesHold : Type 0 where
   pub accesses : AccessesHold
   pub footprints : FootprintsHold
   pub pending : PendingHolds
+  pub known : KnownHolds

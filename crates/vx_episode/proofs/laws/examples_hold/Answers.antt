@@ -10,7 +10,7 @@ use Rattle.vx_vector.specs.Batches.{longest_run}
 use Rattle.vx_packed.specs.Joined.{some_below}
 use Rattle.vx_episode.specs.Footprint.{footprint}
 use Rattle.vx_episode.specs.Episode.{run_on, fetched_on, episode}
-use Rattle.vx_episode.specs.Examples.{HiHolds, CalculatesHolds, LoadsHold, StoresHold, AcrossHolds, TrimsHold, InFlightHold, WaitsHold, StopsHold, ChainsHold, HandlesHold, MasksHold, ScattersHold, JumpsHold, BatchesHold, TiesHold, WalksHold, OperandsHold, FlightHolds, TiedWalksHold, AccessesHold, FootprintsHold, PendingHolds}
+use Rattle.vx_episode.specs.Examples.{HiHolds, CalculatesHolds, LoadsHold, StoresHold, AcrossHolds, TrimsHold, InFlightHold, WaitsHold, StopsHold, ChainsHold, HandlesHold, MasksHold, ScattersHold, JumpsHold, BatchesHold, TiesHold, WalksHold, OperandsHold, FlightHolds, TiedWalksHold, AccessesHold, FootprintsHold, PendingHolds, KnownHolds}
 use Rattle.vx_episode.specs.Show.{is_pending}
 use Rattle.vx_episode.proofs.laws.examples_hold.Goals as goal
 
@@ -106,5 +106,9 @@ pending : PendingHolds
 unfolding operations upcoming performed page_map after_walk walk table_walk entry_in merged after_elements longest_run some_below footprint run_on fetched_on episode is_pending
 pending = record { scalar = refl; scalar_fails = refl; load = refl; from_vstart = refl; fails = refl }
 
+known : KnownHolds
+unfolding operations upcoming performed page_map after_walk walk table_walk entry_in merged after_elements longest_run some_below footprint run_on fetched_on episode
+known = record { number = refl; retires = refl; fetches = refl; exits_is = refl; jumps = refl; squares = refl; three = refl; three_with = refl; down = refl; down_with = refl }
+
 pub returns : goal.returns
-returns c = record { hi = hi; calculates = calculates; loads = loads; stores = stores; across = across; trims = trims; in_flight = in_flight; waits = waits; stops = stops; chains = chains; handles = handles; masks = masks; scatters = scatters; jumps = jumps; batches = batches; ties = ties; walks = walks; operands = operands; flight = flight; tied_walks = tied_walks; accesses = accesses; footprints = footprints; pending = pending }
+returns c = record { hi = hi; calculates = calculates; loads = loads; stores = stores; across = across; trims = trims; in_flight = in_flight; waits = waits; stops = stops; chains = chains; handles = handles; masks = masks; scatters = scatters; jumps = jumps; batches = batches; ties = ties; walks = walks; operands = operands; flight = flight; tied_walks = tied_walks; accesses = accesses; footprints = footprints; pending = pending; known = known }
