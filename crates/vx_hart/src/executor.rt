@@ -322,7 +322,7 @@ impl Executor {
         ensures performed { (output : List ℕ) → let s = flat_of arch.old (M.state memory.old physical.old) output in
             outcome_of result.progress self.new (flat_of arch.new (M.state memory.new physical.new) output) ≡ outcome_next s (meaning s word (Some known.now.instr)) }
     {
-        let Some(progress) = self.perform(arch, memory, physical, known.class, &known.instr) else {
+        let Some(progress) = self.perform(arch, memory, physical, known) else {
             return Advance {
                 class: None,
                 progress: fault(arch, &mut self.fault, 2, u64::from(word)),
@@ -334,7 +334,7 @@ impl Executor {
         }
     }
 
-    /// Does an instruction of a class, unless it asks for a service. `None` where it isn't executed or isn't legal; then
+    /// Does an instruction by its class, unless it asks for a service. `None` where it isn't executed or isn't legal; then
     /// nothing changes.
     #[tactic(auto, using(crate::proofs::Performable::names_registers))]
     #[inline(always)]
@@ -343,20 +343,19 @@ impl Executor {
         arch: &mut Arch,
         memory: &mut M,
         physical: &mut P,
-        class: Class,
-        i: &Instr,
+        known: &Known,
     ) -> Option<Progress>
-        requires valid { IsValid i.now }
-        requires class { class ≡ class_of i.now.op }
+        requires valid { IsValid known.now.instr }
         requires fits { M.fits memory.old physical.old }
         ensures fits { M.fits memory.new physical.new }
         ensures rest { M.rest memory.new physical.new ≡ M.rest memory.old physical.old }
-        ensures legal { (output : List ℕ) → is_some result ≡ (is_legal_as class (flat_of arch.old (M.state memory.old physical.old) output) i.now) }
+        ensures legal { (output : List ℕ) → is_some result ≡ (is_legal_as known.now.class (flat_of arch.old (M.state memory.old physical.old) output) known.now.instr) }
         ensures illegal { result ≡ None → (output : List ℕ) → flat_of arch.new (M.state memory.new physical.new) output ≡ flat_of arch.old (M.state memory.old physical.old) output }
-        ensures waits { is_service_class class ≡ true → (output : List ℕ) → flat_of arch.new (M.state memory.new physical.new) output ≡ flat_of arch.old (M.state memory.old physical.old) output }
-        ensures performed { IfSome result (λ p. (output : List ℕ) → outcome_of p self.new (flat_of arch.new (M.state memory.new physical.new) output) ≡ outcome_as class (flat_of arch.old (M.state memory.old physical.old) output) i.now) }
+        ensures waits { is_service_class known.now.class ≡ true → (output : List ℕ) → flat_of arch.new (M.state memory.new physical.new) output ≡ flat_of arch.old (M.state memory.old physical.old) output }
+        ensures performed { IfSome result (λ p. (output : List ℕ) → outcome_of p self.new (flat_of arch.new (M.state memory.new physical.new) output) ≡ outcome_as known.now.class (flat_of arch.old (M.state memory.old physical.old) output) known.now.instr) }
     {
-        match class {
+        let i = &known.instr;
+        match known.class {
             Class::Arithmetic | Class::Multiply | Class::Divide => Some(affect(
                 arch,
                 &mut self.fault,
