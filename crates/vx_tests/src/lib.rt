@@ -2,7 +2,7 @@
 //! path, and what no command shows, as failing shelves and sinks in memory. What the program shows stands in tests/cases instead;
 //! vx_machine_tests has the tests of the machines and of the program's call.
 //!
-//! It gives nothing: since a crate with tests is proved twice, the crates below have none of their own.
+//! It gives nothing: since a crate with tests is proved twice, the crates below have few of their own.
 #![tactic(auto)]
 
 #[cfg(test)]
